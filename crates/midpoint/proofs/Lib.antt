@@ -1,0 +1,4 @@
+pub mod Sorting
+pub mod Fronts
+pub mod Ranks
+pub mod Shifts
