@@ -1,0 +1,61 @@
+-- Configurations: what is turned away, in the order of the checks. Assumes nothing: these are definitions.
+use mathlib.Core.Path.{_≡_}
+use mathlib.Core.Bool.{not, _&&_, _||_}
+use mathlib.Core.List.{List, [], _∷_}
+use Prim.Native.Nat.{ℕ, _+_, _*_}
+use lib.Dec.{leb, ltb}
+use Rattle.midpoint.specs.Refusals.{Row}
+use Rattle.midpoint.specs.declared.refusal.Code.{Code}
+use Rattle.cluster.specs.declared.limits.Cluster.{Cluster}
+use Rattle.cluster.specs.declared.limits.Timing.{Timing}
+use Rattle.cluster.specs.declared.config.Unfit.{Unfit}
+use Rattle.cluster.specs.declared.config.Unfit.the-variants.{Nodes, Faults, NodesForFaults, Drift, Jitter, Pause, Length}
+
+-- nodes outside of 4 to 16; faults above 3, or nodes that are not more than three times the faults; drift above 1000; jitter above 1000
+abbrev pub unfit-cluster : ℕ → ℕ → ℕ → ℕ → List Row
+unfit-cluster nodes faults drift jitter =
+    record { number = 4; applies = not (leb 4 nodes && leb nodes 16); place = 0 }
+    ∷ record { number = 4; applies = ltb 3 faults || leb nodes (3 * faults); place = 1 }
+    ∷ record { number = 5; applies = ltb 1000 drift; place = 0 }
+    ∷ record { number = 5; applies = ltb 1000 jitter; place = 1 }
+    ∷ []
+
+-- by how much a good node's reading of a good clock may be wrong, and how far apart good clocks may come, between rounds and within one
+abbrev pub error-of : Cluster → ℕ
+error-of c = c .jitter + 2 * c .drift
+
+abbrev pub bound-of : Cluster → ℕ
+bound-of c = 4 * error-of c + 4 * c .drift + 2
+
+abbrev pub width-of : Cluster → ℕ
+width-of c = bound-of c + 2 * c .drift
+
+-- a pause in which clocks may not all be set yet; a slot that is too short for what goes on in it, or above 10^9
+abbrev pub unfit-timing : Cluster → ℕ → ℕ → ℕ → ℕ → List Row
+unfit-timing c slot pause message wire =
+    record { number = 6; applies = ltb pause (width-of c + error-of c + c .drift); place = 0 }
+    ∷ record { number = 6; applies = ltb slot (pause + wire + width-of c + message) || ltb 1000000000 slot; place = 1 }
+    ∷ []
+
+-- number and place of each refusal
+abbrev pub code-of : Unfit → Code
+code-of Nodes = record { number = 4; place = 0 }
+code-of Faults = record { number = 4; place = 1 }
+code-of NodesForFaults = record { number = 4; place = 1 }
+code-of Drift = record { number = 5; place = 0 }
+code-of Jitter = record { number = 5; place = 1 }
+code-of Pause = record { number = 6; place = 0 }
+code-of Length = record { number = 6; place = 1 }
+
+-- a configuration with these numbers
+pub record ClusterOf (nodes faults drift jitter : ℕ) (c : Cluster) : Type 0 where
+  pub its-nodes : c .nodes ≡ nodes
+  pub its-faults : c .faults ≡ faults
+  pub its-drift : c .drift ≡ drift
+  pub its-jitter : c .jitter ≡ jitter
+
+pub record TimingOf (slot pause message wire : ℕ) (t : Timing) : Type 0 where
+  pub its-slot : t .slot ≡ slot
+  pub its-pause : t .pause ≡ pause
+  pub its-message : t .message ≡ message
+  pub its-wire : t .wire ≡ wire

@@ -1,0 +1,2 @@
+pub mod Config
+pub mod Rounds

@@ -1,0 +1,22 @@
+//! A cluster of which a script plays the faulty nodes: the good nodes' clocks, and what a round makes of
+//! them.
+//!
+//! - `limits`: the numbers of a cluster and of its slots, within their limits.
+//! - `config`: how these are made, and why a configuration is turned away.
+//! - `round`: what a script says of one round.
+//! - `clocks`: the good clocks, and one round after another.
+
+pub mod clocks;
+pub mod config;
+pub mod limits;
+pub mod round;
+
+pub use clocks::Clocks;
+pub use clocks::Outcome;
+pub use clocks::Played;
+pub use clocks::Player;
+pub use config::Unfit;
+pub use limits::Cluster;
+pub use limits::Timing;
+pub use round::Heard;
+pub use round::Round;
