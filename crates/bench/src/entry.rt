@@ -1,6 +1,7 @@
 //! The lines of a script.
 use crate::reason::Malformed;
 use crate::reason::Range;
+use std::str::FromStr;
 use std::str::SplitWhitespace;
 
 /// What one line says. The values of a message are read and not used yet.
@@ -149,45 +150,34 @@ fn named<'a>(words: &mut SplitWhitespace<'a>, word: &'static str) -> Result<u64,
 }
 
 fn natural<'a>(words: &mut SplitWhitespace<'a>, after: &'static str) -> Result<u64, Malformed<'a>> {
-    let missing = Malformed::NotANumber {
-        after,
-        range: Range::Natural64,
-    };
-    let Some(word) = words.next() else {
-        return Err(missing);
-    };
-    match word.parse::<u64>() {
-        Ok(n) => Ok(n),
-        Err(_) => Err(missing),
-    }
+    number(words.next(), after, Range::Natural64)
 }
 
 // A signed number behind `by`.
 fn by<'a>(words: &mut SplitWhitespace<'a>) -> Result<i64, Malformed<'a>> {
     keyword(words, "by")?;
-    let missing = Malformed::NotANumber {
-        after: "by",
-        range: Range::Signed64,
-    };
-    let Some(word) = words.next() else {
-        return Err(missing);
-    };
-    match word.parse::<i64>() {
-        Ok(n) => Ok(n),
-        Err(_) => Err(missing),
-    }
+    number(words.next(), "by", Range::Signed64)
 }
 
 // One value of a frame.
 fn value<'a>(word: Option<&'a str>) -> Result<u32, Malformed<'a>> {
-    let missing = Malformed::NotANumber {
-        after: "value",
-        range: Range::Natural32,
-    };
+    number(word, "value", Range::Natural32)
+}
+
+// The number that a word writes. The range is that of the type.
+fn number<'a, N: FromStr>(
+    word: Option<&'a str>,
+    after: &'static str,
+    range: Range,
+) -> Result<N, Malformed<'a>>
+where
+    N::Err: Drop,
+{
+    let missing = Malformed::NotANumber { after, range };
     let Some(word) = word else {
         return Err(missing);
     };
-    match word.parse::<u32>() {
+    match word.parse::<N>() {
         Ok(n) => Ok(n),
         Err(_) => Err(missing),
     }

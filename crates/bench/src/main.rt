@@ -2,6 +2,8 @@
 mod entry;
 mod reason;
 mod script;
+#[cfg(test)]
+mod tests;
 
 use reason::FaultDisplay;
 use std::env;

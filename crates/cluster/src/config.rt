@@ -1,8 +1,6 @@
 //! Configurations, and why one is turned away.
 ghost use mathlib.Core.Path.{_≡_};
-ghost use Rattle.std.specs.Results.{Cases};
-ghost use Rattle.std.specs.declared.option.Option.the-variants.{Some, None};
-ghost use Rattle.midpoint.specs.Refusals.{first-applying};
+ghost use Rattle.midpoint.specs.Refusals.{ByRows};
 ghost use Rattle.cluster.specs.Config.{code-of, ClusterOf, TimingOf, unfit-cluster, unfit-timing, error-of, width-of};
 use crate::limits::Cluster;
 use crate::limits::Timing;
@@ -22,36 +20,19 @@ pub enum Unfit {
 }
 
 impl Unfit {
-    // Its number and place in the fixed list of refusals.
+    /// Its number and place in the fixed list of refusals.
     pub fn code(self) -> Code
         ensures { λ r. ⌜ r ≡ code-of self ⌝ }
     {
-        match self {
-            Unfit::Nodes => Code {
-                number: 4,
-                place: 0,
-            },
-            Unfit::Faults | Unfit::NodesForFaults => Code {
-                number: 4,
-                place: 1,
-            },
-            Unfit::Drift => Code {
-                number: 5,
-                place: 0,
-            },
-            Unfit::Jitter => Code {
-                number: 5,
-                place: 1,
-            },
-            Unfit::Pause => Code {
-                number: 6,
-                place: 0,
-            },
-            Unfit::Length => Code {
-                number: 6,
-                place: 1,
-            },
-        }
+        let (number, place) = match self {
+            Unfit::Nodes => (4, 0),
+            Unfit::Faults | Unfit::NodesForFaults => (4, 1),
+            Unfit::Drift => (5, 0),
+            Unfit::Jitter => (5, 1),
+            Unfit::Pause => (6, 0),
+            Unfit::Length => (6, 1),
+        };
+        Code { number, place }
     }
 }
 
@@ -75,8 +56,9 @@ pub impl fmt::Display for Unfit as UnfitDisplay {
 }
 
 impl Cluster {
+    /// A cluster with these numbers, or the first reason why there is none.
     pub fn new(nodes: u64, faults: u64, drift: u64, jitter: u64) -> Result<Cluster, Unfit>
-        ensures { λ r. ⌜ Cases r (λ c. (first-applying (unfit-cluster nodes faults drift jitter) ≡ None) × ClusterOf nodes faults drift jitter c) (λ e. first-applying (unfit-cluster nodes faults drift jitter) ≡ Some (code-of e)) ⌝ }
+        ensures { λ r. ⌜ ByRows (unfit-cluster nodes faults drift jitter) code-of (ClusterOf nodes faults drift jitter) r ⌝ }
     {
         if nodes < 4 || nodes > 16 {
             return Err(Unfit::Nodes);
@@ -101,7 +83,7 @@ impl Cluster {
         })
     }
 
-    // By how much a good node's reading of a good clock may be wrong.
+    /// By how much a good node's reading of a good clock may be wrong.
     pub fn error(&self) -> u64
         ensures { λ r. ⌜ r ≡ error-of (now (self .entry)) ⌝ }
     {
@@ -117,6 +99,7 @@ impl Cluster {
 }
 
 impl Timing {
+    /// Slots of this length for a cluster, or the first reason why they do not do. Nothing wraps.
     pub fn new(
         cluster: &Cluster,
         slot: u64,
@@ -124,7 +107,7 @@ impl Timing {
         message: u64,
         wire: u64,
     ) -> Result<Timing, Unfit>
-        ensures { λ r. ⌜ Cases r (λ t. (first-applying (unfit-timing (now (cluster .entry)) slot pause message wire) ≡ None) × TimingOf slot pause message wire t) (λ e. first-applying (unfit-timing (now (cluster .entry)) slot pause message wire) ≡ Some (code-of e)) ⌝ }
+        ensures { λ r. ⌜ ByRows (unfit-timing (now (cluster .entry)) slot pause message wire) code-of (TimingOf slot pause message wire) r ⌝ }
     {
         if pause < cluster.width() + cluster.error() + cluster.drift {
             return Err(Unfit::Pause);

@@ -2,11 +2,9 @@
 ghost use mathlib.Core.Path.{_≡_};
 ghost use Prim.Native.Nat.{_*_, _<_, _≤_};
 ghost use lib.ListN.{length, take};
-ghost use Rattle.std.specs.Results.{Cases};
-ghost use Rattle.std.specs.declared.option.Option.the-variants.{Some, None};
 ghost use Rattle.std.specs.shelf.Lists.{leading};
 ghost use Rattle.midpoint.specs.Midpoint.{lower, upper};
-ghost use Rattle.midpoint.specs.Refusals.{first-applying};
+ghost use Rattle.midpoint.specs.Refusals.{ByRows};
 ghost use Rattle.midpoint.specs.Setting.{Set-says, unusable, code-of, shown};
 use crate::order::MAX_NODES;
 use crate::order::in_order;
@@ -41,7 +39,7 @@ pub fn set_clock(faults: u64, readings: &[u64]) -> Set
 
 // Whether a clock can be set by these readings.
 fn usable(faults: u64, readings: &[u64]) -> Result<(), Refusal>
-    ensures { λ r. ⌜ Cases r (λ _. first-applying (unusable faults (now (readings .entry))) ≡ None) (λ e. first-applying (unusable faults (now (readings .entry))) ≡ Some (code-of e)) ⌝ }
+    ensures { λ r. ⌜ ByRows (unusable faults (now (readings .entry))) code-of (λ _. Unit {0}) r ⌝ }
 {
     let count = readings.len();
     if count < 1 || count > MAX_NODES {
