@@ -48,13 +48,13 @@ code-of Pause = record { number = 6; place = 0 }
 code-of Length = record { number = 6; place = 1 }
 
 -- a configuration with these numbers
-pub record ClusterOf (nodes faults drift jitter : ℕ) (c : Cluster) : Type 0 where
+pub record Cluster-of (nodes faults drift jitter : ℕ) (c : Cluster) : Type 0 where
   pub its-nodes : c .nodes ≡ nodes
   pub its-faults : c .faults ≡ faults
   pub its-drift : c .drift ≡ drift
   pub its-jitter : c .jitter ≡ jitter
 
-pub record TimingOf (slot pause message wire : ℕ) (t : Timing) : Type 0 where
+pub record Timing-of (slot pause message wire : ℕ) (t : Timing) : Type 0 where
   pub its-slot : t .slot ≡ slot
   pub its-pause : t .pause ≡ pause
   pub its-message : t .message ≡ message

@@ -1,7 +1,7 @@
 //! Configurations, and why one is turned away.
 ghost use mathlib.Core.Path.{_≡_};
-ghost use Rattle.midpoint.specs.Refusals.{ByRows};
-ghost use Rattle.cluster.specs.Config.{code-of, ClusterOf, TimingOf, unfit-cluster, unfit-timing, error-of, width-of};
+ghost use Rattle.midpoint.specs.Refusals.{By-rows};
+ghost use Rattle.cluster.specs.Config.{code-of, Cluster-of, Timing-of, unfit-cluster, unfit-timing, error-of, width-of};
 use crate::limits::Cluster;
 use crate::limits::Timing;
 use midpoint::Code;
@@ -58,7 +58,7 @@ pub impl fmt::Display for Unfit as UnfitDisplay {
 impl Cluster {
     /// A cluster with these numbers, or the first reason why there is none.
     pub fn new(nodes: u64, faults: u64, drift: u64, jitter: u64) -> Result<Cluster, Unfit>
-        ensures { λ r. ⌜ ByRows (unfit-cluster nodes faults drift jitter) code-of (ClusterOf nodes faults drift jitter) r ⌝ }
+        ensures { λ r. ⌜ By-rows (unfit-cluster nodes faults drift jitter) code-of (Cluster-of nodes faults drift jitter) r ⌝ }
     {
         if nodes < 4 || nodes > 16 {
             return Err(Unfit::Nodes);
@@ -107,7 +107,7 @@ impl Timing {
         message: u64,
         wire: u64,
     ) -> Result<Timing, Unfit>
-        ensures { λ r. ⌜ ByRows (unfit-timing (now (cluster .entry)) slot pause message wire) code-of (TimingOf slot pause message wire) r ⌝ }
+        ensures { λ r. ⌜ By-rows (unfit-timing (now (cluster .entry)) slot pause message wire) code-of (Timing-of slot pause message wire) r ⌝ }
     {
         if pause < cluster.width() + cluster.error() + cluster.drift {
             return Err(Unfit::Pause);

@@ -9,21 +9,21 @@ use lib.Dec.{leb, ltb}
 use lib.ListN.{length, getD}
 use Rattle.std.proofs.shelf.Ways.{tells}
 use Rattle.std.proofs.shelf.Tests.{cases-lt}
-use Rattle.midpoint.specs.Order.{sorted, count, SameNumbers}
-use Rattle.midpoint.specs.Theorems.{Sorts, Trims, OrderFree, Holds, outside}
+use Rattle.midpoint.specs.Order.{sorted, count, Same-numbers}
+use Rattle.midpoint.specs.Theorems.{Sorts, Trims, Order-free, Holds, outside}
 use Rattle.midpoint.proofs.Sorting.{Rises, sorted-count, sorted-length, sorted-rises, sorted-is, at-least, count-le, rising-from-rises}
 
 pub sorts : Sorts
 sorts xs = (rising-from-rises 0 (sorted xs) (sorted-rises xs), λ x. sorted-count _ xs, sorted-is xs)
 
 -- two lists with the same numbers are sorted alike
-same-sorted : (xs ys : List ℕ) → SameNumbers xs ys → sorted xs ≡ sorted ys
+same-sorted : (xs ys : List ℕ) → Same-numbers xs ys → sorted xs ≡ sorted ys
 same-sorted xs ys same = sorted-is ys (sorted xs) (sorts xs .0) (λ x. sorted-count _ xs ∙ same x)
 
 same-length : (xs ys : List ℕ) → sorted xs ≡ sorted ys → length xs ≡ length ys
 same-length xs ys e = sym (sorted-length xs) ∙ ap length e ∙ sorted-length ys
 
-pub order-free : OrderFree
+pub order-free : Order-free
 order-free f xs ys same =
     let e = same-sorted xs ys same in
     let l = same-length xs ys e in

@@ -13,7 +13,7 @@ use Rattle.std.proofs.shelf.Sums.{sumBy-cons}
 use Rattle.std.proofs.shelf.Sorted.{sumBy-shuffled}
 use Rattle.std.specs.Slices.{Shuffled}
 use Rattle.std.specs.shelf.Lists.{sumBy}
-use Rattle.midpoint.specs.Order.{insert, sorted, count, Rising, SameNumbers}
+use Rattle.midpoint.specs.Order.{insert, sorted, count, Rising, Same-numbers}
 
 -- in rising order, and nothing below m
 abbrev pub Rises : ℕ → List ℕ → Type 0
@@ -83,7 +83,7 @@ unfolding count
 none-below k m [] h r = refl
 none-below k m (x ∷ xs) h r = let ih = none-below k x xs (omega (arith, r .0)) (r .1) in grind (arith, tells)
 
-first-not-below : (x m : ℕ) (xs : List ℕ) (y : ℕ) (ys : List ℕ) → Rises m (y ∷ ys) → SameNumbers (x ∷ xs) (y ∷ ys) → x < y → ⊥
+first-not-below : (x m : ℕ) (xs : List ℕ) (y : ℕ) (ys : List ℕ) → Rises m (y ∷ ys) → Same-numbers (x ∷ xs) (y ∷ ys) → x < y → ⊥
 unfolding count
 first-not-below x m xs y ys r same h =
     let none = none-below x y (y ∷ ys) h (omega arith, r .1) in
@@ -92,7 +92,7 @@ first-not-below x m xs y ys r same h =
     grind (arith, tells)
 
 -- two lists that rise and have the same numbers are the same list
-pub same-rises : (m n : ℕ) (xs ys : List ℕ) → Rises m xs → Rises n ys → SameNumbers xs ys → xs ≡ ys
+pub same-rises : (m n : ℕ) (xs ys : List ℕ) → Rises m xs → Rises n ys → Same-numbers xs ys → xs ≡ ys
 unfolding count
 same-rises m n [] [] r s same = refl
 same-rises m n [] (y ∷ ys) r s same = let here = eq-eqb y y refl in let at = same y in absurd (grind (arith, tells))
@@ -100,7 +100,7 @@ same-rises m n (x ∷ xs) [] r s same = let here = eq-eqb x x refl in let at = s
 same-rises m n (x ∷ xs) (y ∷ ys) r s same =
     elim (cases-order x y) [
       | inl e ↦
-          let rest : SameNumbers xs ys = λ z. let at = same z in let each = ap (eqb z) e in grind (arith, tells) in
+          let rest : Same-numbers xs ys = λ z. let at = same z in let each = ap (eqb z) e in grind (arith, tells) in
           let tail = same-rises x y xs ys (r .1) (s .1) rest in
           cc
       | inr (inl h) ↦ absurd (first-not-below x n xs y ys s same h)
@@ -108,7 +108,7 @@ same-rises m n (x ∷ xs) (y ∷ ys) r s same =
     ]
 
 -- so a list that rises and has the numbers of another is that one sorted
-pub sorted-is : (xs ys : List ℕ) → Rising ys → SameNumbers ys xs → ys ≡ sorted xs
+pub sorted-is : (xs ys : List ℕ) → Rising ys → Same-numbers ys xs → ys ≡ sorted xs
 sorted-is xs ys up same = same-rises 0 0 ys (sorted xs) (rises-from-rising ys up) (sorted-rises xs) (λ z. same z ∙ sym (sorted-count (eqb z) xs))
 
 -- a list whose elements have changed places has the same numbers

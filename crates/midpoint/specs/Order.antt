@@ -26,5 +26,5 @@ abbrev pub Rising : List ℕ → Type 0
 Rising xs = (i j : ℕ) → i ≤ j → j < length xs → getD xs i 0 ≤ getD xs j 0
 
 -- each number stands in the one list as often as in the other
-abbrev pub SameNumbers : List ℕ → List ℕ → Type 0
-SameNumbers xs ys = (x : ℕ) → count (eqb x) xs ≡ count (eqb x) ys
+abbrev pub Same-numbers : List ℕ → List ℕ → Type 0
+Same-numbers xs ys = (x : ℕ) → count (eqb x) xs ≡ count (eqb x) ys

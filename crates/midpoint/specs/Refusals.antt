@@ -22,6 +22,6 @@ first-applying (row ∷ rows) =
     cond (row .applies) (Some (record { number = row .number; place = row .place })) (first-applying rows)
 
 -- the answer of a function that turns away by a list of rows: what is promised of a value where no row applies, else the first row that does
-abbrev pub ByRows : {A E : Type 0} → List Row → (E → Code) → (A → Type 0) → Result A E → Type 0
-ByRows rows code promised (Ok value) = (first-applying rows ≡ None) × promised value
-ByRows rows code promised (Err refusal) = first-applying rows ≡ Some (code refusal)
+abbrev pub By-rows : {A E : Type 0} → List Row → (E → Code) → (A → Type 0) → Result A E → Type 0
+By-rows rows code promised (Ok value) = (first-applying rows ≡ None) × promised value
+By-rows rows code promised (Err refusal) = first-applying rows ≡ Some (code refusal)

@@ -6,7 +6,7 @@ use Prim.Native.Nat.{ℕ, _+_, _*_, _≤_, _<_}
 use lib.Dec.{leb, ltb}
 use lib.ListN.{length}
 use Rattle.std.specs.shelf.Lists.{All}
-use Rattle.midpoint.specs.Order.{sorted, count, Rising, SameNumbers}
+use Rattle.midpoint.specs.Order.{sorted, count, Rising, Same-numbers}
 use Rattle.midpoint.specs.Midpoint.{lower, upper, midpoint}
 use Rattle.midpoint.specs.Setting.{Set-says}
 use Rattle.midpoint.specs.declared.setting.Set.{Set}
@@ -14,15 +14,15 @@ use Rattle.midpoint.specs.declared.setting.Set.{Set}
 -- The sorted list rises, has the same numbers, and is the only list of which both are so.
 abbrev pub Sorts : Type 0
 Sorts =
-    (xs : List ℕ) → Rising (sorted xs) × SameNumbers (sorted xs) xs × ((ys : List ℕ) → Rising ys → SameNumbers ys xs → ys ≡ sorted xs)
+    (xs : List ℕ) → Rising (sorted xs) × Same-numbers (sorted xs) xs × ((ys : List ℕ) → Rising ys → Same-numbers ys xs → ys ≡ sorted xs)
 
 -- No more than f readings are below the lower of the two that the midpoint is taken of, and no more than f above the upper one.
 abbrev pub Trims : Type 0
 Trims = (f : ℕ) (xs : List ℕ) → f < length xs → (count (λ x. ltb x (lower f xs)) xs ≤ f) × (count (ltb (upper f xs)) xs ≤ f)
 
 -- The midpoint does not depend on the order of the readings.
-abbrev pub OrderFree : Type 0
-OrderFree = (f : ℕ) (xs ys : List ℕ) → SameNumbers xs ys → midpoint f xs ≡ midpoint f ys
+abbrev pub Order-free : Type 0
+Order-free = (f : ℕ) (xs ys : List ℕ) → Same-numbers xs ys → midpoint f xs ≡ midpoint f ys
 
 -- Readings that are all later by d give a midpoint that is later by d.
 abbrev pub later : ℕ → List ℕ → List ℕ
@@ -38,13 +38,15 @@ outside low high xs = count (λ x. not (leb low x && leb x high)) xs
 abbrev pub Holds : Type 0
 Holds = (f low high : ℕ) (xs : List ℕ) → 2 * f < length xs → outside low high xs ≤ f → (low ≤ midpoint f xs) × (midpoint f xs ≤ high)
 
--- With readings that are just twice f one liar does: of 0 and 10, where one may be a lie, the midpoint is not 10.
-abbrev pub NeedsMore : Type 0
-NeedsMore = (outside 10 10 (0 ∷ 10 ∷ []) ≡ 1) × (midpoint 1 (0 ∷ 10 ∷ []) ≡ 5)
+-- With readings that are just twice f it is not so: of 0 and 10, where one may be a lie, the midpoint is not 10. With one more it is.
+abbrev pub Needs-more : Type 0
+Needs-more =
+    (outside 10 10 (0 ∷ 10 ∷ []) ≡ 1) × (midpoint 1 (0 ∷ 10 ∷ []) ≡ 5)
+    × (outside 10 10 (0 ∷ 10 ∷ 10 ∷ []) ≡ 1) × (midpoint 1 (0 ∷ 10 ∷ 10 ∷ []) ≡ 10)
 
 -- What the contract of `set_clock` allows for an input is one answer and no other.
-abbrev pub OneAnswer : Type 0
-OneAnswer = (faults : ℕ) (readings : List ℕ) (r s : Set) → Set-says faults readings r → Set-says faults readings s → r ≡ s
+abbrev pub One-answer : Type 0
+One-answer = (faults : ℕ) (readings : List ℕ) (r s : Set) → Set-says faults readings r → Set-says faults readings s → r ≡ s
 
 -- Cases worked out by hand.
 pub record Case : Type 0 where

@@ -4,7 +4,7 @@ ghost use Prim.Native.Nat.{_*_, _<_, _≤_};
 ghost use lib.ListN.{length, take};
 ghost use Rattle.std.specs.shelf.Lists.{leading};
 ghost use Rattle.midpoint.specs.Midpoint.{lower, upper};
-ghost use Rattle.midpoint.specs.Refusals.{ByRows};
+ghost use Rattle.midpoint.specs.Refusals.{By-rows};
 ghost use Rattle.midpoint.specs.Setting.{Set-says, unusable, code-of, shown};
 use crate::order::MAX_NODES;
 use crate::order::in_order;
@@ -39,7 +39,7 @@ pub fn set_clock(faults: u64, readings: &[u64]) -> Set
 
 // Whether a clock can be set by these readings.
 fn usable(faults: u64, readings: &[u64]) -> Result<(), Refusal>
-    ensures { λ r. ⌜ ByRows (unusable faults (now (readings .entry))) code-of (λ _. Unit {0}) r ⌝ }
+    ensures { λ r. ⌜ By-rows (unusable faults (now (readings .entry))) code-of (λ _. Unit {0}) r ⌝ }
 {
     let count = readings.len();
     if count < 1 || count > MAX_NODES {

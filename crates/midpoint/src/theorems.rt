@@ -1,6 +1,6 @@
 //! The theorems of this crate. Each function's contract is one statement of `specs/Theorems.antt`, so
 //! that the crate is not proved without it; what the function does is nothing.
-ghost use Rattle.midpoint.specs.Theorems.{Sorts, Trims, OrderFree, Shifts, Holds, NeedsMore, OneAnswer, Worked};
+ghost use Rattle.midpoint.specs.Theorems.{Sorts, Trims, Order-free, Shifts, Holds, Needs-more, One-answer, Worked};
 
 /// The sorted list rises, has the same readings, and is the only such list.
 pub fn sorting_keeps_the_readings() -> u8
@@ -18,7 +18,7 @@ pub fn extremes_are_few() -> u8
 
 /// The order of the readings does not matter.
 pub fn order_does_not_matter() -> u8
-    ensures { λ _. ⌜ OrderFree ⌝ }
+    ensures { λ _. ⌜ Order-free ⌝ }
 {
     0
 }
@@ -39,14 +39,14 @@ pub fn liars_do_not_move_it_out() -> u8
 
 /// With no more than twice as many readings as faults they do.
 pub fn fewer_readings_do_not_hold() -> u8
-    ensures { λ _. ⌜ NeedsMore ⌝ }
+    ensures { λ _. ⌜ Needs-more ⌝ }
 {
     0
 }
 
 /// The contract of `set_clock` leaves one answer for each input.
 pub fn answer_is_one() -> u8
-    ensures { λ _. ⌜ OneAnswer ⌝ }
+    ensures { λ _. ⌜ One-answer ⌝ }
 {
     0
 }
