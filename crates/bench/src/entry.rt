@@ -76,10 +76,7 @@ fn without_comment(line: &str) -> &str {
 }
 
 fn cluster<'a>(words: &mut SplitWhitespace<'a>) -> Result<Entry, Malformed<'a>> {
-    let nodes = named(words, "nodes")?;
-    let faults = named(words, "faults")?;
-    let drift = named(words, "drift")?;
-    let jitter = named(words, "jitter")?;
+    let [nodes, faults, drift, jitter] = four(words, ["nodes", "faults", "drift", "jitter"])?;
     Ok(Entry::Cluster {
         nodes,
         faults,
@@ -89,10 +86,7 @@ fn cluster<'a>(words: &mut SplitWhitespace<'a>) -> Result<Entry, Malformed<'a>> 
 }
 
 fn timing<'a>(words: &mut SplitWhitespace<'a>) -> Result<Entry, Malformed<'a>> {
-    let slot = named(words, "length")?;
-    let pause = named(words, "pause")?;
-    let message = named(words, "message")?;
-    let wire = named(words, "wire")?;
+    let [slot, pause, message, wire] = four(words, ["length", "pause", "message", "wire"])?;
     Ok(Entry::Timing {
         slot,
         pause,
@@ -147,6 +141,18 @@ fn keyword<'a>(words: &mut SplitWhitespace<'a>, word: &'static str) -> Result<()
 fn named<'a>(words: &mut SplitWhitespace<'a>, word: &'static str) -> Result<u64, Malformed<'a>> {
     keyword(words, word)?;
     natural(words, word)
+}
+
+// Four numbers, each behind its word.
+fn four<'a>(
+    words: &mut SplitWhitespace<'a>,
+    names: [&'static str; 4],
+) -> Result<[u64; 4], Malformed<'a>> {
+    let mut numbers = [0; 4];
+    for i in 0..4 {
+        numbers[i] = named(words, names[i])?;
+    }
+    Ok(numbers)
 }
 
 fn natural<'a>(words: &mut SplitWhitespace<'a>, after: &'static str) -> Result<u64, Malformed<'a>> {

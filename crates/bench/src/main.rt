@@ -1,4 +1,5 @@
-//! `bench FILE`: plays a script of a cluster, and prints the good clocks of each round.
+//! `bench FILE`: plays a script of a cluster, and prints the good clocks of each round. A script that is
+//! wrong anywhere prints nothing but the reason, on standard error, and the program ends with status 1.
 mod entry;
 mod reason;
 mod script;
@@ -8,36 +9,27 @@ mod tests;
 use reason::FaultDisplay;
 use std::env;
 use std::error::AnyError;
+use std::fmt::Display;
 use std::fs;
-
-const USAGE: &str = "usage: bench FILE";
 
 fn main(rt: LibcRuntime) -> Result<(), AnyError> {
     let mut words = env::args(&rt)?;
     let _program = words.next();
     let (Some(path), None) = (words.next(), words.next()) else {
-        return fail(&rt, USAGE);
+        return fail(&rt, "usage: bench FILE");
     };
     let text = match fs::read_to_string(&rt, path.as_str()) {
         Ok(text) => text,
-        Err(error) => {
-            eprintln!(rt, "cannot read {path}: {error}")?;
-            return Err("cannot read the file".into());
-        }
+        Err(error) => return fail(&rt, format!(rt.alloc(), "cannot read {path}: {error}")?),
     };
     match script::output(rt.alloc(), text.as_str()) {
-        Ok(out) => {
-            rt.print(out.as_str())?;
-            Ok(())
-        }
-        Err(fault) => {
-            eprintln!(rt, "{fault}")?;
-            Err("the script is turned away".into())
-        }
+        Ok(out) => Ok(rt.print(out.as_str())?),
+        Err(fault) => fail(&rt, fault),
     }
 }
 
-fn fail(rt: &LibcRuntime, message: &str) -> Result<(), AnyError> {
-    eprintln!(rt, "{message}")?;
-    Err("wrong arguments".into())
+// Says why on standard error; the error that it gives back ends the program with status 1.
+fn fail(rt: &LibcRuntime, why: impl Display + Drop) -> Result<(), AnyError> {
+    eprintln!(rt, "{why}")?;
+    Err("turned away".into())
 }

@@ -57,6 +57,12 @@ pub(crate) enum Misfit {
     DriftTwice { node: u64 },
 }
 
+pub(crate) impl From<Unfit> for Misfit as MisfitFromUnfit {
+    fn from(unfit: Unfit) -> Self {
+        Misfit::Refused(unfit)
+    }
+}
+
 /// Why a script has no output: a line that cannot be read or does not fit, or want of memory.
 #[derive(Clone, Copy)]
 pub(crate) enum Fault<'a> {

@@ -2,13 +2,15 @@
 ghost use mathlib.Core.Path.{_≡_};
 ghost use Prim.Native.Nat.{_<_, _≤_};
 ghost use Rattle.std.specs.Results.{Cases};
-ghost use Rattle.std.specs.Vec.{made};
+ghost use Rattle.midpoint.specs.Refusals.{By-rows};
+ghost use Rattle.bench.specs.Script.{unnameable, Named, incomplete, not-good, not-bad, unsayable, Said, no-jitter, Jittered, no-drift, Drifted};
 use crate::entry;
 use crate::entry::Entry;
 use crate::reason::Fault;
 use crate::reason::FaultFromFormat;
 use crate::reason::Lines;
 use crate::reason::Misfit;
+use crate::reason::MisfitFromUnfit;
 use cluster::Clocks;
 use cluster::Cluster;
 use cluster::Outcome;
@@ -121,10 +123,7 @@ fn configured(entry: Entry) -> Result<Cluster, Misfit> {
     else {
         return Err(Misfit::Expected(Lines::Cluster));
     };
-    match Cluster::new(nodes, faults, drift, jitter) {
-        Ok(cluster) => Ok(cluster),
-        Err(unfit) => Err(Misfit::Refused(unfit)),
-    }
+    Ok(Cluster::new(nodes, faults, drift, jitter)?)
 }
 
 fn timed(cluster: Cluster, entry: Entry) -> Result<Naming, Misfit> {
@@ -137,20 +136,18 @@ fn timed(cluster: Cluster, entry: Entry) -> Result<Naming, Misfit> {
     else {
         return Err(Misfit::Expected(Lines::Timing));
     };
-    match Timing::new(&cluster, slot, pause, message, wire) {
-        Ok(timing) => Ok(Naming {
-            cluster,
-            timing,
-            named: [false; MAX_NODES],
-            players: [Player::Bad; MAX_NODES],
-        }),
-        Err(unfit) => Err(Misfit::Refused(unfit)),
-    }
+    let timing = Timing::new(&cluster, slot, pause, message, wire)?;
+    Ok(Naming {
+        cluster,
+        timing,
+        named: [false; MAX_NODES],
+        players: [Player::Bad; MAX_NODES],
+    })
 }
 
 // The index of a node of the cluster.
 fn index(cluster: &Cluster, node: u64) -> Result<usize, Misfit>
-    ensures { λ r. ⌜ Cases r (λ i. (i ≡ node) × (i < now (cluster .entry) .nodes)) (λ _. now (cluster .entry) .nodes ≤ node) ⌝ }
+    ensures { λ r. ⌜ Cases r (λ i. (i ≡ node) × (i < now (cluster .entry) .nodes)) (λ e. (e ≡ Misfit.PastTheCluster node) × (now (cluster .entry) .nodes ≤ node)) ⌝ }
 {
     if node < cluster.nodes {
         Ok(node as usize)
@@ -179,7 +176,9 @@ impl Naming {
     }
 
     // In the first round's end a clock shows how far it is ahead, since common time is 0 there.
-    fn name(mut self, node: u64, player: Player) -> Result<Naming, Misfit> {
+    fn name(mut self, node: u64, player: Player) -> Result<Naming, Misfit>
+        ensures { λ r. ⌜ By-rows (unnameable self node) (λ e. e) (Named self node player) r ⌝ }
+    {
         let i = index(&self.cluster, node)?;
         if self.named[i] {
             return Err(Misfit::NamedTwice { node });
@@ -190,7 +189,9 @@ impl Naming {
     }
 
     // Each node is named.
-    fn complete(&self) -> Result<(), Misfit> {
+    fn complete(&self) -> Result<(), Misfit>
+        ensures { λ r. ⌜ By-rows (incomplete (now (self .entry))) (λ e. e) (λ _. Unit {0}) r ⌝ }
+    {
         for node in 0..self.cluster.nodes {
             if !self.named[node as usize] {
                 return Err(Misfit::NotNamed { node });
@@ -225,14 +226,18 @@ impl Running {
         }
     }
 
-    fn says(mut self, from: u64, to: u64, ahead: u64) -> Result<Running, Misfit> {
+    fn says(mut self, from: u64, to: u64, ahead: u64) -> Result<Running, Misfit>
+        ensures { λ r. ⌜ By-rows (unsayable self from to) (λ e. e) (Said self from to ahead) r ⌝ }
+    {
         let q = self.bad(from)?;
         let p = self.good(to)?;
         self.round.add_message(p, q, ahead);
         Ok(self)
     }
 
-    fn jitter(mut self, node: u64, of: u64, by: i64) -> Result<Running, Misfit> {
+    fn jitter(mut self, node: u64, of: u64, by: i64) -> Result<Running, Misfit>
+        ensures { λ r. ⌜ By-rows (no-jitter self node of by) (λ e. e) (Jittered self node of by) r ⌝ }
+    {
         let p = self.good(node)?;
         let q = self.good(of)?;
         if p == q {
@@ -249,7 +254,9 @@ impl Running {
         Ok(self)
     }
 
-    fn drift(mut self, node: u64, by: i64) -> Result<Running, Misfit> {
+    fn drift(mut self, node: u64, by: i64) -> Result<Running, Misfit>
+        ensures { λ r. ⌜ By-rows (no-drift self node by) (λ e. e) (Drifted self node by) r ⌝ }
+    {
         let p = self.good(node)?;
         let most = self.clocks.cluster.drift;
         if by.unsigned_abs() > most {
@@ -264,7 +271,7 @@ impl Running {
 
     // The index of a good node.
     fn good(&self, node: u64) -> Result<usize, Misfit>
-        ensures { λ r. ⌜ made r (λ i. (i ≡ node) × (i < now (self .entry) .clocks .cluster .nodes)) ⌝ }
+        ensures { λ r. ⌜ By-rows (not-good (now (self .entry)) node) (λ e. e) (λ i. (i ≡ node) × (i < 16)) r ⌝ }
     {
         let i = index(&self.clocks.cluster, node)?;
         match self.clocks.players[i] {
@@ -275,7 +282,7 @@ impl Running {
 
     // The index of a bad node.
     fn bad(&self, node: u64) -> Result<usize, Misfit>
-        ensures { λ r. ⌜ made r (λ i. (i ≡ node) × (i < now (self .entry) .clocks .cluster .nodes)) ⌝ }
+        ensures { λ r. ⌜ By-rows (not-bad (now (self .entry)) node) (λ e. e) (λ i. (i ≡ node) × (i < 16)) r ⌝ }
     {
         let i = index(&self.clocks.cluster, node)?;
         match self.clocks.players[i] {

@@ -318,6 +318,21 @@ fn jitter_and_drift(rt: LibcRuntime) -> Result<(), Fail> {
     )
 }
 
+// A clock that runs slow comes to be behind common time.
+#[test]
+fn behind_common_time(rt: LibcRuntime) -> Result<(), Fail> {
+    let text = "cluster nodes 4 faults 1 drift 2 jitter 0
+        timing length 1000 pause 300 message 200 wire 8
+        good 0 value 1 ahead 0
+        good 1 value 1 ahead 0
+        good 2 value 1 ahead 0
+        bad 3
+        round
+        drift 0 by -2
+        round";
+    says(rt.alloc(), text, "clocks -2 0 0\nclocks -1 0 0\n")
+}
+
 // Comments, empty lines, line ends of two bytes, tabs, and no line end at all.
 #[test]
 fn layout(rt: LibcRuntime) -> Result<(), Fail> {

@@ -4,7 +4,7 @@ use mathlib.Core.Bool.{not, _&&_, _||_}
 use mathlib.Core.List.{List, [], _∷_}
 use Prim.Native.Nat.{ℕ, _+_, _*_}
 use lib.Dec.{leb, ltb}
-use Rattle.midpoint.specs.Refusals.{Row}
+use Rattle.midpoint.specs.Refusals.{Row, row}
 use Rattle.midpoint.specs.declared.refusal.Code.{Code}
 use Rattle.cluster.specs.declared.limits.Cluster.{Cluster}
 use Rattle.cluster.specs.declared.limits.Timing.{Timing}
@@ -12,12 +12,12 @@ use Rattle.cluster.specs.declared.config.Unfit.{Unfit}
 use Rattle.cluster.specs.declared.config.Unfit.the-variants.{Nodes, Faults, NodesForFaults, Drift, Jitter, Pause, Length}
 
 -- nodes outside of 4 to 16; faults above 3, or nodes that are not more than three times the faults; drift above 1000; jitter above 1000
-abbrev pub unfit-cluster : ℕ → ℕ → ℕ → ℕ → List Row
+abbrev pub unfit-cluster : ℕ → ℕ → ℕ → ℕ → List (Row Code)
 unfit-cluster nodes faults drift jitter =
-    record { number = 4; applies = not (leb 4 nodes && leb nodes 16); place = 0 }
-    ∷ record { number = 4; applies = ltb 3 faults || leb nodes (3 * faults); place = 1 }
-    ∷ record { number = 5; applies = ltb 1000 drift; place = 0 }
-    ∷ record { number = 5; applies = ltb 1000 jitter; place = 1 }
+    row 4 (not (leb 4 nodes && leb nodes 16)) 0
+    ∷ row 4 (ltb 3 faults || leb nodes (3 * faults)) 1
+    ∷ row 5 (ltb 1000 drift) 0
+    ∷ row 5 (ltb 1000 jitter) 1
     ∷ []
 
 -- by how much a good node's reading of a good clock may be wrong, and how far apart good clocks may come, between rounds and within one
@@ -31,10 +31,10 @@ abbrev pub width-of : Cluster → ℕ
 width-of c = bound-of c + 2 * c .drift
 
 -- a pause in which clocks may not all be set yet; a slot that is too short for what goes on in it, or above 10^9
-abbrev pub unfit-timing : Cluster → ℕ → ℕ → ℕ → ℕ → List Row
+abbrev pub unfit-timing : Cluster → ℕ → ℕ → ℕ → ℕ → List (Row Code)
 unfit-timing c slot pause message wire =
-    record { number = 6; applies = ltb pause (width-of c + error-of c + c .drift); place = 0 }
-    ∷ record { number = 6; applies = ltb slot (pause + wire + width-of c + message) || ltb 1000000000 slot; place = 1 }
+    row 6 (ltb pause (width-of c + error-of c + c .drift)) 0
+    ∷ row 6 (ltb slot (pause + wire + width-of c + message) || ltb 1000000000 slot) 1
     ∷ []
 
 -- number and place of each refusal

@@ -8,7 +8,7 @@ use lib.ListN.{length}
 use Rattle.std.specs.declared.option.Option.the-variants.{Some, None}
 use Rattle.std.specs.shelf.Lists.{leading}
 use Rattle.midpoint.specs.Midpoint.{midpoint}
-use Rattle.midpoint.specs.Refusals.{Row, first-applying}
+use Rattle.midpoint.specs.Refusals.{Row, row, first-applying}
 use Rattle.midpoint.specs.declared.refusal.Code.{Code}
 use Rattle.midpoint.specs.declared.refusal.Refusal.{Refusal}
 use Rattle.midpoint.specs.declared.refusal.Refusal.the-variants.{ReadingCount, TooManyFaults, ReadingTooLarge}
@@ -28,11 +28,11 @@ shown reading = ltb reading clock-limit
 
 -- Readings that no clock is set by, in the order of the checks: none or too many of them; not more than three times the faults; one that is
 -- too large, at its index, which is how many stand before it.
-abbrev pub unusable : ℕ → List ℕ → List Row
+abbrev pub unusable : ℕ → List ℕ → List (Row Code)
 unusable faults readings =
-    record { number = 1; applies = not (leb 1 (length readings) && leb (length readings) most-readings); place = length readings }
-    ∷ record { number = 2; applies = leb (length readings) (3 * faults); place = faults }
-    ∷ record { number = 3; applies = ltb (leading shown readings) (length readings); place = leading shown readings }
+    row 1 (not (leb 1 (length readings) && leb (length readings) most-readings)) (length readings)
+    ∷ row 2 (leb (length readings) (3 * faults)) faults
+    ∷ row 3 (ltb (leading shown readings) (length readings)) (leading shown readings)
     ∷ []
 
 -- number and place of each refusal of this crate
