@@ -80,7 +80,7 @@ fn without_extremes(faults: usize, readings: &[u64]) -> (u64, u64)
     (rising[faults], rising[count - 1 - faults])
 }
 
-// The readings at the front of an array, with zeros behind them.
+// The readings at the front of an array. What stands behind them is not looked at.
 fn padded(readings: &[u64]) -> [u64; MAX_NODES]
     requires { ⌜ length (now readings) ≤ 16 ⌝ }
     ensures { λ r. ⌜ take (length (now (readings .entry))) r ≡ now (readings .entry) ⌝ }
