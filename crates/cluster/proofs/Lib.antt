@@ -1,1 +1,2 @@
 mod Filled
+mod Spans

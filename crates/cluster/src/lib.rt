@@ -5,11 +5,13 @@
 //! - `config`: how these are made, and why a configuration is turned away.
 //! - `round`: what a script says of one round.
 //! - `clocks`: the good clocks, and one round after another.
+//! - `theorems`: what is proved of a round, whatever a script says.
 
 pub mod clocks;
 pub mod config;
 pub mod limits;
 pub mod round;
+pub mod theorems;
 
 pub use clocks::Clocks;
 pub use clocks::Outcome;

@@ -7,8 +7,10 @@ use Prim.Native.Nat.{ℕ, zero, suc, _+_, _-_, _*_, _≤_, _<_}
 use native.Mathlib.Omega.{arith}
 use lib.Dec.{leb, ltb}
 use lib.ListN.{length, getD}
+use Rattle.std.proofs.shelf.Elements.{all-from-getD}
 use Rattle.std.proofs.shelf.Ways.{tells}
 use Rattle.std.proofs.shelf.Tests.{cases-lt}
+use Rattle.std.specs.shelf.Lists.{All}
 use Rattle.midpoint.specs.Order.{sorted, count, Same-numbers}
 use Rattle.midpoint.specs.Theorems.{Sorts, Trims, Order-free, Holds, outside}
 use Rattle.midpoint.proofs.Sorting.{Rises, sorted-count, sorted-length, sorted-rises, sorted-is, at-least, count-le, rising-from-rises}
@@ -58,11 +60,14 @@ trims f xs h =
       omega (arith, few-above 0 s top (sorted-rises xs) (omega arith), sorted-count (ltb (getD s top 0)) xs),
     )
 
--- where a test passes all that another passes, it passes no fewer
-pub count-more : (a b : ℕ → Bool) (xs : List ℕ) → ((x : ℕ) → a x ≡ true → b x ≡ true) → count a xs ≤ count b xs
+-- where a test passes all of a list that another passes, it passes no fewer
+pub count-over : (a b : ℕ → Bool) (xs : List ℕ) → All (λ x. a x ≡ true → b x ≡ true) xs → count a xs ≤ count b xs
 unfolding count
-count-more a b [] imp = omega arith
-count-more a b (x ∷ xs) imp = let ih = count-more a b xs imp in let here = imp x in grind (arith, tells)
+count-over a b [] imp = omega arith
+count-over a b (x ∷ xs) (here, rest) = let ih = count-over a b xs rest in grind (arith, tells)
+
+count-more : (a b : ℕ → Bool) (xs : List ℕ) → ((x : ℕ) → a x ≡ true → b x ≡ true) → count a xs ≤ count b xs
+count-more a b xs imp = count-over a b xs (all-from-getD _ xs 0 (λ i h. imp (getD xs i 0)))
 
 -- what passes a test and what fails it are all
 count-rest : (test : ℕ → Bool) (xs : List ℕ) → count test xs + count (λ x. not (test x)) xs ≡ length xs
