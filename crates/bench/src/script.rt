@@ -157,6 +157,7 @@ fn index(cluster: &Cluster, node: u64) -> Result<usize, Misfit>
 }
 
 impl Naming {
+    // At the end of the first round common time is 0, so a clock shows there how far it is ahead.
     fn take(self, entry: Entry) -> Result<Stage, Misfit> {
         match entry {
             Entry::Good { node, ahead } => Ok(Stage::Naming(
@@ -175,7 +176,7 @@ impl Naming {
         }
     }
 
-    // In the first round's end a clock shows how far it is ahead, since common time is 0 there.
+    // One node more.
     fn name(mut self, node: u64, player: Player) -> Result<Naming, Misfit>
         ensures { λ r. ⌜ By-rows (unnameable self node) (λ e. e) (Named self node player) r ⌝ }
     {
