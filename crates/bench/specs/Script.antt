@@ -11,17 +11,12 @@ use Rattle.std.specs.declared.option.Option.the-variants.{Some, None}
 use Rattle.std.specs.shelf.Lists.{leading}
 use Rattle.midpoint.specs.Refusals.{Row}
 use Rattle.cluster.specs.Config.{error-of}
-use Rattle.cluster.specs.Rounds.{heard-of, one-more, with-entry, with-place}
+use Rattle.cluster.specs.Rounds.{player, is-bad, heard-of, one-more, with-entry, with-place}
 use Rattle.cluster.specs.declared.clocks.Player.{Player}
-use Rattle.cluster.specs.declared.clocks.Player.the-variants.{Good, Bad}
 use Rattle.bench.specs.declared.reason.Misfit.{Misfit}
 use Rattle.bench.specs.declared.reason.Misfit.the-variants.{PastTheCluster, NamedTwice, NotNamed, NotGood, NotBad, OwnClock, JitterPast, DriftPast, JitterTwice, DriftTwice}
 use Rattle.bench.specs.declared.script.Naming.{Naming}
 use Rattle.bench.specs.declared.script.Running.{Running}
-
-abbrev pub is-good : Player → Bool
-is-good (Good clock) = true
-is-good Bad = false
 
 abbrev pub misfit : Bool → Misfit → Row Misfit
 misfit applies why = record { applies = applies; refusal = why }
@@ -43,17 +38,14 @@ abbrev pub incomplete : Naming → List (Row Misfit)
 incomplete s = misfit (ltb (first-unnamed s) (s .cluster .nodes)) (NotNamed (first-unnamed s)) ∷ []
 
 -- Rounds: a line that names a bad node, or a good one, names one of the cluster.
-abbrev pub player-of : Running → ℕ → Player
-player-of s node = getD (s .clocks .players) node Bad
-
 abbrev pub past : Running → ℕ → Row Misfit
 past s node = misfit (not (ltb node (s .clocks .cluster .nodes))) (PastTheCluster node)
 
 abbrev pub not-bad : Running → ℕ → List (Row Misfit)
-not-bad s node = past s node ∷ misfit (is-good (player-of s node)) (NotBad node) ∷ []
+not-bad s node = past s node ∷ misfit (not (is-bad (player (s .clocks) node))) (NotBad node) ∷ []
 
 abbrev pub not-good : Running → ℕ → List (Row Misfit)
-not-good s node = past s node ∷ misfit (not (is-good (player-of s node))) (NotGood node) ∷ []
+not-good s node = past s node ∷ misfit (is-bad (player (s .clocks) node)) (NotGood node) ∷ []
 
 -- A message is of a bad node to a good one.
 abbrev pub unsayable : Running → ℕ → ℕ → List (Row Misfit)

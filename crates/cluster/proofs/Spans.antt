@@ -12,15 +12,15 @@ use lib.IntN.{ℤ, pos, negsuc, natAbs}
 use lib.ListN.{length, replicate}
 use Rattle.std.proofs.shelf.Counted.{length-map-counting, length-counting, getD-counting}
 use Rattle.std.proofs.shelf.Elements.{all-from-getD}
-use Rattle.std.proofs.shelf.Tests.{cases-bool, both-ways, and-from, le-leb, not-from-true}
+use Rattle.std.proofs.shelf.Tests.{cases-bool, both-ways, and-from, le-leb, not-from-true, eqb-false}
 use Rattle.std.proofs.shelf.Ways.{tells}
 use Rattle.std.specs.Iters.{counting}
 use Rattle.std.specs.shelf.Lists.{All}
 use Rattle.midpoint.specs.Order.{count}
 use Rattle.midpoint.specs.Theorems.{outside}
 use Rattle.midpoint.proofs.Ranks.{holds, count-over}
-use Rattle.cluster.specs.Rounds.{largest, moved, jitter-of, reading, readings}
-use Rattle.cluster.specs.Theorems.{player, is-bad, bad-nodes, Spanned, Within-limits, Not-pulled-out, Limits-can-be-kept}
+use Rattle.cluster.specs.Rounds.{largest, player, is-bad, moved, jitter-of, reading, readings}
+use Rattle.cluster.specs.Theorems.{bad-nodes, Spanned, Within-limits, Not-pulled-out, Limits-can-be-kept}
 use Rattle.cluster.specs.declared.round.Round.{Round}
 use Rattle.cluster.specs.declared.clocks.Clocks.{Clocks}
 use Rattle.cluster.specs.declared.clocks.Player.{Player}
@@ -51,10 +51,10 @@ module _ (c : Clocks) (r : Round) (p own low high most : ℕ) (limits : Within-l
   good-read q clock h e =
       let (l, t) = limits .spanned p own (limits .in-cluster) (limits .good) in
       let (m, u) = limits .spanned q clock h e in
-      let k = moved-near clock most low high (jitter-of r p q) m u (limits .fits) (limits .near q h) in
       elim (cases-bool (eqb p q)) [
         | inl same ↦ rw same (omega arith, omega arith)
-        | inr other ↦ rw (other, e) k
+        | inr other ↦
+            rw (other, e) (moved-near clock most low high (jitter-of r p q) m u (limits .fits) (limits .near q clock h e (eqb-false p q other)))
       ]
 
   -- a reading that is not near is that of a bad node
@@ -119,5 +119,5 @@ unfolding count
 limits-can-be-kept r near = (
   four,
   refl,
-  record { few = omega arith; spanned = four-spanned; fits = lit≤ tt; in-cluster = omega arith; good = refl; near = λ q h. near q },
+  record { few = omega arith; spanned = four-spanned; fits = lit≤ tt; in-cluster = omega arith; good = refl; near = λ q clock h e d. near q },
 )

@@ -2,7 +2,7 @@
 use mathlib.Core.Path.{_≡_}
 use mathlib.Core.Bool.{not, _&&_, _||_}
 use mathlib.Core.List.{List, [], _∷_}
-use Prim.Native.Nat.{ℕ, _+_, _*_}
+use Prim.Native.Nat.{ℕ, _+_, _*_, _≤_, _<_}
 use lib.Dec.{leb, ltb}
 use Rattle.midpoint.specs.Refusals.{Row, row}
 use Rattle.midpoint.specs.declared.refusal.Code.{Code}
@@ -46,6 +46,16 @@ code-of Drift = record { number = 5; place = 0 }
 code-of Jitter = record { number = 5; place = 1 }
 code-of Pause = record { number = 6; place = 0 }
 code-of Length = record { number = 6; place = 1 }
+
+-- the two that share number and place: faults above 3 come first
+abbrev pub Told-apart : ℕ → Unfit → Type 0
+Told-apart faults Nodes = Unit {0}
+Told-apart faults Faults = 3 < faults
+Told-apart faults NodesForFaults = faults ≤ 3
+Told-apart faults Drift = Unit {0}
+Told-apart faults Jitter = Unit {0}
+Told-apart faults Pause = Unit {0}
+Told-apart faults Length = Unit {0}
 
 -- a configuration with these numbers
 pub record Cluster-of (nodes faults drift jitter : ℕ) (c : Cluster) : Type 0 where

@@ -1,7 +1,7 @@
 -- One round of a cluster of which a script plays the faulty nodes: what each good node reads, and what its clock shows as the next round finds
 -- it. Assumes nothing: these are definitions.
 use mathlib.Core.Path.{_≡_}
-use mathlib.Core.Bool.{cond, _&&_}
+use mathlib.Core.Bool.{Bool, true, false, cond, _&&_}
 use mathlib.Core.List.{List, [], map}
 use Prim.Native.Nat.{ℕ, _+_, min}
 use lib.Dec.{eqb, ltb}
@@ -35,6 +35,14 @@ counted (negsuc n) = 0
 abbrev pub moved : ℕ → ℤ → ℕ
 moved time by = counted (pos time +ℤ by)
 
+-- node p of the cluster, and whether it is a bad one
+abbrev pub player : Clocks → ℕ → Player
+player c p = getD (c .players) p Bad
+
+abbrev pub is-bad : Player → Bool
+is-bad Bad = true
+is-bad (Good clock) = false
+
 -- what is read of another node: a good one's clock, wrong by the jitter; of a bad one what it says in one message, else the own clock
 abbrev pub read-of : ℕ → ℕ → ℤ → Player → Heard → ℕ
 read-of common own jitter (Good clock) heard = moved clock jitter
@@ -54,7 +62,7 @@ drift-of r p = valueOr (getD (r .drift) p None) (pos 0)
 
 -- what node p, whose own clock is given, reads of node q; of itself it reads its own clock
 abbrev pub reading : Clocks → Round → ℕ → ℕ → ℕ → ℕ
-reading c r own p q = cond (eqb p q) own (read-of (c .common) own (jitter-of r p q) (getD (c .players) q Bad) (heard-of r p q))
+reading c r own p q = cond (eqb p q) own (read-of (c .common) own (jitter-of r p q) (player c q) (heard-of r p q))
 
 -- what it reads of all nodes
 unfoldable pub readings : Clocks → Round → ℕ → ℕ → List ℕ
@@ -77,9 +85,9 @@ outcome-of c r p Bad = Idle
 outcome-of c r p (Good own) = settled c r p own (readings c r own p)
 
 abbrev pub outcome : Clocks → Round → ℕ → Outcome
-outcome c r p = outcome-of c r p (getD (c .players) p Bad)
+outcome c r p = outcome-of c r p (player c p)
 
--- what the round makes of every node, those past the cluster too, which are as bad ones
+-- what the round makes of the node at each of the 16 places, past the cluster too
 abbrev pub outcomes : Clocks → Round → List Outcome
 outcomes c r = map (outcome c r) (counting 0 16)
 

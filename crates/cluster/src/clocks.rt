@@ -44,7 +44,7 @@ impl Outcome {
 }
 
 /// A cluster at the end of a round: common time, which no node knows, how long a round lasts in it, and
-/// the nodes.
+/// the nodes. What stands past the cluster's nodes is read by none of them.
 #[derive(Clone, Copy)]
 pub struct Clocks {
     pub cluster: Cluster,

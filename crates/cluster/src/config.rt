@@ -1,7 +1,8 @@
 //! Configurations, and why one is turned away.
 ghost use mathlib.Core.Path.{_≡_};
+ghost use Rattle.std.specs.Vec.{refused};
 ghost use Rattle.midpoint.specs.Refusals.{By-rows};
-ghost use Rattle.cluster.specs.Config.{code-of, Cluster-of, Timing-of, unfit-cluster, unfit-timing, error-of, width-of};
+ghost use Rattle.cluster.specs.Config.{code-of, Told-apart, Cluster-of, Timing-of, unfit-cluster, unfit-timing, error-of, width-of};
 use crate::limits::Cluster;
 use crate::limits::Timing;
 use midpoint::Code;
@@ -58,7 +59,8 @@ pub impl fmt::Display for Unfit as UnfitDisplay {
 impl Cluster {
     /// A cluster with these numbers, or the first reason why there is none.
     pub fn new(nodes: u64, faults: u64, drift: u64, jitter: u64) -> Result<Cluster, Unfit>
-        ensures { λ r. ⌜ By-rows (unfit-cluster nodes faults drift jitter) code-of (Cluster-of nodes faults drift jitter) r ⌝ }
+        ensures listed { λ r. ⌜ By-rows (unfit-cluster nodes faults drift jitter) code-of (Cluster-of nodes faults drift jitter) r ⌝ }
+        ensures told_apart { λ r. ⌜ refused r (Told-apart faults) ⌝ }
     {
         if nodes < 4 || nodes > 16 {
             return Err(Unfit::Nodes);

@@ -1,4 +1,6 @@
-//! A cluster's numbers, and the times of its slots.
+//! A cluster's numbers, and the times of its slots, with their limits in the types. The types stand apart
+//! from the functions that make them, since an invariant cannot import a specification that names its
+//! type.
 ghost use Prim.Native.Nat.{_*_, _≤_, _<_};
 
 /// How many nodes there are and how many may be faulty, by how much a clock runs off from one setting

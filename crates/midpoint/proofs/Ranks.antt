@@ -52,13 +52,19 @@ few-above m (x ∷ xs) (suc i) r h =
     let ih = few-above x xs i (r .1) (omega arith) in let k = at-least x xs i (r .1) (omega arith) in grind (arith, tells)
 
 pub trims : Trims
-trims f xs h =
+trims f xs =
     let s = sorted xs in
     let l = sorted-length xs in
-    let top = length xs - 1 - f in (
-      omega (arith, few-below 0 s f (sorted-rises xs) (omega arith), sorted-count (λ x. ltb x (getD s f 0)) xs),
-      omega (arith, few-above 0 s top (sorted-rises xs) (omega arith), sorted-count (ltb (getD s top 0)) xs),
-    )
+    let top = length xs - 1 - f in
+    let below : ℕ → Bool = λ x. ltb x (getD s f 0) in
+    let above : ℕ → Bool = ltb (getD s top 0) in
+    elim (cases-lt f (length xs)) [
+      | inl h ↦ (
+        omega (arith, few-below 0 s f (sorted-rises xs) (omega arith), sorted-count below xs),
+        omega (arith, few-above 0 s top (sorted-rises xs) (omega arith), sorted-count above xs),
+      )
+      | inr h ↦ (omega (arith, count-le below xs), omega (arith, count-le above xs))
+    ]
 
 -- where a test passes all of a list that another passes, it passes no fewer
 pub count-over : (a b : ℕ → Bool) (xs : List ℕ) → All (λ x. a x ≡ true → b x ≡ true) xs → count a xs ≤ count b xs

@@ -18,7 +18,7 @@ Sorts =
 
 -- No more than f readings are below the lower of the two that the midpoint is taken of, and no more than f above the upper one.
 abbrev pub Trims : Type 0
-Trims = (f : ℕ) (xs : List ℕ) → f < length xs → (count (λ x. ltb x (lower f xs)) xs ≤ f) × (count (ltb (upper f xs)) xs ≤ f)
+Trims = (f : ℕ) (xs : List ℕ) → (count (λ x. ltb x (lower f xs)) xs ≤ f) × (count (ltb (upper f xs)) xs ≤ f)
 
 -- The midpoint does not depend on the order of the readings.
 abbrev pub Order-free : Type 0

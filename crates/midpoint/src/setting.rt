@@ -18,7 +18,9 @@ pub const CLOCK_LIMIT: u64 = 1_000_000_000_000;
 /// What a clock is set to.
 #[derive(Clone, Copy, PartialEq, Eq, Debug)]
 pub enum Set {
+    /// The midpoint.
     To(u64),
+    /// Nothing: the readings are turned away, and the clock is to stay as it is.
     Refused(Refusal),
 }
 
