@@ -10,9 +10,10 @@ use lib.ListN.{length, getD}
 use Rattle.std.proofs.shelf.Elements.{all-from-getD}
 use Rattle.std.proofs.shelf.Ways.{tells}
 use Rattle.std.proofs.shelf.Tests.{cases-lt}
-use Rattle.std.specs.shelf.Lists.{All}
+use Rattle.std.specs.shelf.Lists.{All, leading}
 use Rattle.midpoint.specs.Order.{sorted, count, Same-numbers}
-use Rattle.midpoint.specs.Theorems.{Sorts, Trims, Order-free, Holds, outside}
+use Rattle.midpoint.specs.Setting.{clock-limit, shown}
+use Rattle.midpoint.specs.Theorems.{Sorts, Trims, Order-free, Holds, Stays-shown, outside}
 use Rattle.midpoint.proofs.Sorting.{Rises, sorted-count, sorted-length, sorted-rises, sorted-is, at-least, count-le, rising-from-rises}
 
 pub sorts : Sorts
@@ -108,3 +109,14 @@ holds f low high xs h few =
     let (a, b) = within f low high xs few f (omega arith) (omega arith) in
     let (d, e) = within f low high xs few (length xs - 1 - f) (omega arith) (omega arith) in
     (omega arith, omega arith)
+
+-- readings that a clock can show do not lie outside of what clocks show
+none-outside : (xs : List ℕ) → length xs ≤ leading shown xs → outside 0 (clock-limit - 1) xs ≡ 0
+unfolding count
+none-outside [] h = refl
+none-outside (x ∷ xs) h = let ih = none-outside xs in grind (arith, tells)
+
+pub stays-shown : Stays-shown
+stays-shown f time xs (taken, e) =
+    let (l, h) = holds f 0 (clock-limit - 1) xs (grind (arith, tells)) (omega (arith, none-outside xs (grind (arith, tells)))) in
+    omega arith

@@ -8,8 +8,9 @@ use lib.ListN.{length}
 use Rattle.std.specs.shelf.Lists.{All}
 use Rattle.midpoint.specs.Order.{sorted, count, Rising, Same-numbers}
 use Rattle.midpoint.specs.Midpoint.{lower, upper, midpoint}
-use Rattle.midpoint.specs.Setting.{Set-says}
+use Rattle.midpoint.specs.Setting.{Set-says, clock-limit}
 use Rattle.midpoint.specs.declared.setting.Set.{Set}
+use Rattle.midpoint.specs.declared.setting.Set.the-variants.{To}
 
 -- The sorted list rises, has the same numbers, and is the only list of which both are so.
 abbrev pub Sorts : Type 0
@@ -47,6 +48,10 @@ Needs-more =
 -- What the contract of `set_clock` allows for an input is one answer and no other.
 abbrev pub One-answer : Type 0
 One-answer = (faults : ℕ) (readings : List ℕ) (r s : Set) → Set-says faults readings r → Set-says faults readings s → r ≡ s
+
+-- A clock is only set to a time that a clock can show.
+abbrev pub Stays-shown : Type 0
+Stays-shown = (faults time : ℕ) (readings : List ℕ) → Set-says faults readings (To time) → time < clock-limit
 
 -- Cases worked out by hand.
 pub record Case : Type 0 where

@@ -1,6 +1,6 @@
 //! The theorems of this crate. Each function's contract is one statement of `specs/Theorems.antt`, so
 //! that the crate is not proved without it; what the function does is nothing.
-ghost use Rattle.midpoint.specs.Theorems.{Sorts, Trims, Order-free, Shifts, Holds, Needs-more, One-answer, Worked};
+ghost use Rattle.midpoint.specs.Theorems.{Sorts, Trims, Order-free, Shifts, Holds, Needs-more, One-answer, Stays-shown, Worked};
 
 /// The sorted list rises, has the same readings, and is the only such list.
 pub fn sorting_keeps_the_readings() -> u8
@@ -47,6 +47,13 @@ pub fn fewer_readings_do_not_hold() -> u8
 /// The contract of `set_clock` leaves one answer for each input.
 pub fn answer_is_one() -> u8
     ensures { λ _. ⌜ One-answer ⌝ }
+{
+    0
+}
+
+/// A clock is only set to a time that a clock can show.
+pub fn limit_is_not_passed() -> u8
+    ensures { λ _. ⌜ Stays-shown ⌝ }
 {
     0
 }

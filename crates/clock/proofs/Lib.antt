@@ -1,0 +1,5 @@
+pub mod Filled
+pub mod Messages
+pub mod Nodes
+pub mod Possible
+pub mod Rounds
