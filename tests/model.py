@@ -83,7 +83,8 @@ def play(script):
         after = {}  # everyone reads the old clocks, so the new ones wait here
         for p in good:
             readings = [reading(this, clocks, common, p, q) for q in range(script.nodes)]
-            high = [i for i, r in enumerate(readings) if r >= LIMIT]
+            # the own time is looked at first, then the readings in the nodes' order
+            high = [i for i in [p, *range(script.nodes)] if readings[i] >= LIMIT]
             if high:
                 lines.append(f"refused 3 at {high[0]}: {p}")
                 clock = clocks[p]

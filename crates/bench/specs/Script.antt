@@ -10,7 +10,7 @@ use Rattle.std.specs.Options.{isSome}
 use Rattle.std.specs.declared.option.Option.the-variants.{Some, None}
 use Rattle.std.specs.shelf.Lists.{leading}
 use Rattle.midpoint.specs.Refusals.{Row}
-use Rattle.cluster.specs.Config.{error-of}
+use Rattle.clock.specs.Config.{error-of}
 use Rattle.cluster.specs.Rounds.{player, is-bad, heard-of, one-more, with-entry, with-place}
 use Rattle.cluster.specs.declared.clocks.Player.{Player}
 use Rattle.bench.specs.declared.reason.Misfit.{Misfit}

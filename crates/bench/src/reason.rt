@@ -63,6 +63,12 @@ pub(crate) impl From<Unfit> for Misfit as MisfitFromUnfit {
     }
 }
 
+pub(crate) impl From<clock::Unfit> for Misfit as MisfitFromNumbers {
+    fn from(unfit: clock::Unfit) -> Self {
+        Misfit::Refused(Unfit::Numbers(unfit))
+    }
+}
+
 /// Why a script has no output: a line that cannot be read or does not fit, or want of memory.
 #[derive(Clone, Copy)]
 pub(crate) enum Fault<'a> {

@@ -10,9 +10,11 @@ use crate::reason::Fault;
 use crate::reason::FaultFromFormat;
 use crate::reason::Lines;
 use crate::reason::Misfit;
+use crate::reason::MisfitFromNumbers;
 use crate::reason::MisfitFromUnfit;
+use clock::Clock;
+use clock::Cluster;
 use cluster::Clocks;
-use cluster::Cluster;
 use cluster::Outcome;
 use cluster::Played;
 use cluster::Player;
@@ -149,7 +151,7 @@ fn timed(cluster: Cluster, entry: Entry) -> Result<Naming, Misfit> {
 fn index(cluster: &Cluster, node: u64) -> Result<usize, Misfit>
     ensures { λ r. ⌜ Cases r (λ i. (i ≡ node) × (i < now (cluster .entry) .nodes)) (λ e. (e ≡ Misfit.PastTheCluster node) × (now (cluster .entry) .nodes ≤ node)) ⌝ }
 {
-    if node < cluster.nodes {
+    if node < cluster.nodes() {
         Ok(node as usize)
     } else {
         Err(Misfit::PastTheCluster { node })
@@ -161,7 +163,13 @@ impl Naming {
     fn take(self, entry: Entry) -> Result<Stage, Misfit> {
         match entry {
             Entry::Good { node, ahead } => Ok(Stage::Naming(
-                self.name(node, Player::Good { clock: ahead })?,
+                self.name(
+                    node,
+                    Player::Good {
+                        clock: Clock::new(),
+                        time: ahead,
+                    },
+                )?,
             )),
             Entry::Bad { node } => Ok(Stage::Naming(self.name(node, Player::Bad)?)),
             Entry::Round => {
@@ -193,7 +201,7 @@ impl Naming {
     fn complete(&self) -> Result<(), Misfit>
         ensures { λ r. ⌜ By-rows (incomplete (now (self .entry))) (λ e. e) (λ _. Unit {0}) r ⌝ }
     {
-        for node in 0..self.cluster.nodes {
+        for node in 0..self.cluster.nodes() {
             if !self.named[node as usize] {
                 return Err(Misfit::NotNamed { node });
             }
@@ -259,7 +267,7 @@ impl Running {
         ensures { λ r. ⌜ By-rows (no-drift self node by) (λ e. e) (Drifted self node by) r ⌝ }
     {
         let p = self.good(node)?;
-        let most = self.clocks.cluster.drift;
+        let most = self.clocks.cluster.drift();
         if by.unsigned_abs() > most {
             return Err(Misfit::DriftPast { most });
         }
@@ -275,7 +283,8 @@ impl Running {
         ensures { λ r. ⌜ By-rows (not-good (now (self .entry)) node) (λ e. e) (λ i. (i ≡ node) × (i < 16)) r ⌝ }
     {
         let i = index(&self.clocks.cluster, node)?;
-        match self.clocks.players[i] {
+        let player = self.clocks.players[i];
+        match player {
             Player::Good { .. } => Ok(i),
             Player::Bad => Err(Misfit::NotGood { node }),
         }
@@ -286,7 +295,8 @@ impl Running {
         ensures { λ r. ⌜ By-rows (not-bad (now (self .entry)) node) (λ e. e) (λ i. (i ≡ node) × (i < 16)) r ⌝ }
     {
         let i = index(&self.clocks.cluster, node)?;
-        match self.clocks.players[i] {
+        let player = self.clocks.players[i];
+        match player {
             Player::Bad => Ok(i),
             Player::Good { .. } => Err(Misfit::NotBad { node }),
         }
@@ -298,7 +308,7 @@ fn show<'a>(out: &mut String, played: Option<Played>) -> Result<(), Fault<'a>> {
     let Some(played) = played else {
         return Ok(());
     };
-    let nodes = played.clocks.cluster.nodes as usize;
+    let nodes = played.clocks.cluster.nodes() as usize;
     for node in 0..nodes {
         show_refusal(out, node, played.outcomes[node])?;
     }
@@ -322,8 +332,8 @@ fn show_refusal<'a>(out: &mut String, node: usize, outcome: Outcome) -> Result<(
 fn show_clock<'a>(out: &mut String, clocks: &Clocks, outcome: Outcome) -> Result<(), Fault<'a>> {
     match outcome {
         Outcome::Idle => Ok(()),
-        Outcome::SetTo { clock } | Outcome::Kept { clock, .. } => {
-            let ahead = clocks.ahead(clock);
+        Outcome::SetTo { time, .. } | Outcome::Kept { time, .. } => {
+            let ahead = clocks.ahead(time);
             write!(out, " {ahead}")?;
             Ok(())
         }

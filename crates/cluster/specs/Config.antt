@@ -1,68 +1,29 @@
--- Configurations: what is turned away, in the order of the checks. Assumes nothing: these are definitions.
+-- The times of a cluster's slots: what is turned away, in the order of the checks. Assumes nothing: these are definitions.
 use mathlib.Core.Path.{_≡_}
-use mathlib.Core.Bool.{not, _&&_, _||_}
+use mathlib.Core.Bool.{_||_}
 use mathlib.Core.List.{List, [], _∷_}
-use Prim.Native.Nat.{ℕ, _+_, _*_, _≤_, _<_}
-use lib.Dec.{leb, ltb}
+use Prim.Native.Nat.{ℕ, _+_}
+use lib.Dec.{ltb}
 use Rattle.midpoint.specs.Refusals.{Row, row}
 use Rattle.midpoint.specs.declared.refusal.Code.{Code}
-use Rattle.cluster.specs.declared.limits.Cluster.{Cluster}
+use Rattle.clock.specs.Config as numbers
+use Rattle.clock.specs.declared.limits.Cluster.{Cluster}
 use Rattle.cluster.specs.declared.limits.Timing.{Timing}
 use Rattle.cluster.specs.declared.config.Unfit.{Unfit}
-use Rattle.cluster.specs.declared.config.Unfit.the-variants.{Nodes, Faults, NodesForFaults, Drift, Jitter, Pause, Length}
-
--- nodes outside of 4 to 16; faults above 3, or nodes that are not more than three times the faults; drift above 1000; jitter above 1000
-abbrev pub unfit-cluster : ℕ → ℕ → ℕ → ℕ → List (Row Code)
-unfit-cluster nodes faults drift jitter =
-    row 4 (not (leb 4 nodes && leb nodes 16)) 0
-    ∷ row 4 (ltb 3 faults || leb nodes (3 * faults)) 1
-    ∷ row 5 (ltb 1000 drift) 0
-    ∷ row 5 (ltb 1000 jitter) 1
-    ∷ []
-
--- by how much a good node's reading of a good clock may be wrong, and how far apart good clocks may come, between rounds and within one
-abbrev pub error-of : Cluster → ℕ
-error-of c = c .jitter + 2 * c .drift
-
-abbrev pub bound-of : Cluster → ℕ
-bound-of c = 4 * error-of c + 4 * c .drift + 2
-
-abbrev pub width-of : Cluster → ℕ
-width-of c = bound-of c + 2 * c .drift
+use Rattle.cluster.specs.declared.config.Unfit.the-variants.{Numbers, Pause, Length}
 
 -- a pause in which clocks may not all be set yet; a slot that is too short for what goes on in it, or above 10^9
 abbrev pub unfit-timing : Cluster → ℕ → ℕ → ℕ → ℕ → List (Row Code)
 unfit-timing c slot pause message wire =
-    row 6 (ltb pause (width-of c + error-of c + c .drift)) 0
-    ∷ row 6 (ltb slot (pause + wire + width-of c + message) || ltb 1000000000 slot) 1
+    row 6 (ltb pause (numbers.width-of c + numbers.error-of c + c .drift)) 0
+    ∷ row 6 (ltb slot (pause + wire + numbers.width-of c + message) || ltb 1000000000 slot) 1
     ∷ []
 
 -- number and place of each refusal
 abbrev pub code-of : Unfit → Code
-code-of Nodes = record { number = 4; place = 0 }
-code-of Faults = record { number = 4; place = 1 }
-code-of NodesForFaults = record { number = 4; place = 1 }
-code-of Drift = record { number = 5; place = 0 }
-code-of Jitter = record { number = 5; place = 1 }
+code-of (Numbers unfit) = numbers.code-of unfit
 code-of Pause = record { number = 6; place = 0 }
 code-of Length = record { number = 6; place = 1 }
-
--- the two that share number and place: faults above 3 come first
-abbrev pub Told-apart : ℕ → Unfit → Type 0
-Told-apart faults Nodes = Unit {0}
-Told-apart faults Faults = 3 < faults
-Told-apart faults NodesForFaults = faults ≤ 3
-Told-apart faults Drift = Unit {0}
-Told-apart faults Jitter = Unit {0}
-Told-apart faults Pause = Unit {0}
-Told-apart faults Length = Unit {0}
-
--- a configuration with these numbers
-pub record Cluster-of (nodes faults drift jitter : ℕ) (c : Cluster) : Type 0 where
-  pub its-nodes : c .nodes ≡ nodes
-  pub its-faults : c .faults ≡ faults
-  pub its-drift : c .drift ≡ drift
-  pub its-jitter : c .jitter ≡ jitter
 
 pub record Timing-of (slot pause message wire : ℕ) (t : Timing) : Type 0 where
   pub its-slot : t .slot ≡ slot

@@ -3,32 +3,34 @@ ghost use mathlib.Core.Path.{_≡_};
 ghost use mathlib.Core.List.{map};
 ghost use Prim.Native.Nat.{_<_, _+_, _*_, min};
 ghost use lib.IntN.{pos, _-ℤ_};
-ghost use lib.ListN.{take};
-ghost use Rattle.cluster.specs.Rounds.{moved, jitter-of, reading, readings, run-on, settled, outcome, outcomes, next-player, largest};
-use crate::limits::Cluster;
+ghost use Rattle.clock.specs.Deviation.{largest, moved};
+ghost use Rattle.cluster.specs.Rounds.{seen, run-on, told, heard-by, settled, ended, outcome, outcomes, next-player};
 use crate::limits::Timing;
 use crate::round::Heard;
 use crate::round::Round;
+use clock::Clock;
+use clock::Cluster;
+use clock::deviation;
+use clock::reading;
 use midpoint::Code;
 use midpoint::MAX_NODES;
 use midpoint::Set;
-use midpoint::set_clock;
 
-/// A node: a bad one, of which the script says what it does, or a good one, with what its clock shows at
-/// the end of the round.
+/// A node: a bad one, of which the script says what it does, or a good one, with its clock as the last
+/// round left it and what it shows as this one ends.
 #[derive(Clone, Copy)]
 pub enum Player {
     Bad,
-    Good { clock: u64 },
+    Good { clock: Clock, time: u64 },
 }
 
-/// What a round makes of a node: nothing of a bad one, and of a good one its clock as the next round
-/// finds it, set by what it read, or kept since its readings were turned away.
+/// What a round makes of a node: nothing of a bad one, and of a good one its clock, set by what it read, or
+/// kept since its readings or its own time were turned away, and what it shows as the next round ends.
 #[derive(Clone, Copy)]
 pub enum Outcome {
     Idle,
-    SetTo { clock: u64 },
-    Kept { clock: u64, code: Code },
+    SetTo { clock: Clock, time: u64 },
+    Kept { clock: Clock, time: u64, code: Code },
 }
 
 impl Outcome {
@@ -38,7 +40,9 @@ impl Outcome {
     {
         match self {
             Outcome::Idle => Player::Bad,
-            Outcome::SetTo { clock } | Outcome::Kept { clock, .. } => Player::Good { clock },
+            Outcome::SetTo { clock, time } | Outcome::Kept { clock, time, .. } => {
+                Player::Good { clock, time }
+            }
         }
     }
 }
@@ -70,7 +74,7 @@ impl Clocks {
     {
         Clocks {
             cluster,
-            span: cluster.nodes * timing.slot,
+            span: cluster.nodes() * timing.slot,
             common: 0,
             players,
         }
@@ -79,8 +83,8 @@ impl Clocks {
     /// The end of the round: each good node sets its clock by what it reads, and all clocks run on to the
     /// end of the next one.
     pub fn play(self, round: &Round) -> Played
-        ensures outcomes { λ r. ⌜ r .outcomes ≡ outcomes self (now (round .entry)) ⌝ }
-        ensures players { λ r. ⌜ r .clocks .players ≡ map next-player (outcomes self (now (round .entry))) ⌝ }
+        ensures outcomes { λ r. ⌜ map seen (r .outcomes) ≡ outcomes self (now (round .entry)) ⌝ }
+        ensures players { λ r. ⌜ r .clocks .players ≡ map next-player (r .outcomes) ⌝ }
         ensures common { λ r. ⌜ r .clocks .common ≡ min (self .common + self .span) largest ⌝ }
         ensures span { λ r. ⌜ r .clocks .span ≡ self .span ⌝ }
         ensures cluster { λ r. ⌜ r .clocks .cluster ≡ self .cluster ⌝ }
@@ -95,16 +99,16 @@ impl Clocks {
         Played { clocks, outcomes }
     }
 
-    /// How far a clock is ahead of common time.
-    pub fn ahead(&self, clock: u64) -> i128
-        ensures { λ r. ⌜ r ≡ pos clock -ℤ pos (now (self .entry) .common) ⌝ }
+    /// How far a time that a clock shows is ahead of common time.
+    pub fn ahead(&self, time: u64) -> i128
+        ensures { λ r. ⌜ r ≡ pos time -ℤ pos (now (self .entry) .common) ⌝ }
     {
-        clock as i128 - self.common as i128
+        time as i128 - self.common as i128
     }
 
     // What the round makes of each node.
     fn outcomes(&self, round: &Round) -> [Outcome; MAX_NODES]
-        ensures { λ r. ⌜ r ≡ outcomes (now (self .entry)) (now (round .entry)) ⌝ }
+        ensures { λ r. ⌜ map seen r ≡ outcomes (now (self .entry)) (now (round .entry)) ⌝ }
     {
         let mut all = [Outcome::Idle; MAX_NODES];
         for p in 0..MAX_NODES {
@@ -116,71 +120,85 @@ impl Clocks {
     // What it makes of node p.
     fn outcome(&self, round: &Round, p: usize) -> Outcome
         requires { ⌜ p < 16 ⌝ }
-        ensures { λ r. ⌜ r ≡ outcome (now (self .entry)) (now (round .entry)) p ⌝ }
+        ensures { λ r. ⌜ seen r ≡ outcome (now (self .entry)) (now (round .entry)) p ⌝ }
     {
         let player = self.players[p];
         match player {
             Player::Bad => Outcome::Idle,
-            Player::Good { clock: own } => {
-                let nodes = self.cluster.nodes as usize;
-                let all = self.readings(round, own, p);
-                self.settled(round, p, own, &all[0..nodes])
-            }
+            Player::Good { clock, time } => self.ended(round, p, clock, time),
         }
     }
 
-    // What these readings make of the clock of node p.
-    fn settled(&self, round: &Round, p: usize, own: u64, all: &[u64]) -> Outcome
+    // What it makes of the clock of the good node p, which shows a time as the round ends.
+    fn ended(&self, round: &Round, p: usize, clock: Clock, time: u64) -> Outcome
         requires { ⌜ p < 16 ⌝ }
-        ensures { λ r. ⌜ r ≡ settled (now (self .entry)) (now (round .entry)) p own (now (all .entry)) ⌝ }
+        ensures { λ r. ⌜ seen r ≡ ended (now (self .entry)) (now (round .entry)) p clock time ⌝ }
     {
-        match set_clock(self.cluster.faults, all) {
-            Set::To(time) => Outcome::SetTo {
-                clock: self.run_on(round, p, time),
-            },
-            Set::Refused(refusal) => Outcome::Kept {
-                clock: self.run_on(round, p, own),
+        let step = clock.go_on(p, time);
+        match step.answer {
+            Ok(()) => self.settled(round, p, step.clock),
+            Err(refusal) => Outcome::Kept {
+                clock: step.clock,
+                time: self.run_on(round, p, time),
                 code: refusal.code(),
             },
         }
     }
 
-    // What node p reads of all nodes.
-    fn readings(&self, round: &Round, own: u64, p: usize) -> [u64; MAX_NODES]
+    // What it makes of a clock that went on to the round's end.
+    fn settled(&self, round: &Round, p: usize, clock: Clock) -> Outcome
         requires { ⌜ p < 16 ⌝ }
-        ensures { λ r. ⌜ take (now (self .entry) .cluster .nodes) r ≡ readings (now (self .entry)) (now (round .entry)) own p ⌝ }
+        ensures { λ r. ⌜ seen r ≡ settled (now (self .entry)) (now (round .entry)) p (clock .shown) (clock .round) ⌝ }
     {
-        let mut all = [0; MAX_NODES];
-        for q in 0..self.cluster.nodes as usize {
-            all[q] = self.reading(round, own, p, q);
-        }
-        all
-    }
-
-    // What node p reads of node q.
-    fn reading(&self, round: &Round, own: u64, p: usize, q: usize) -> u64
-        requires { ⌜ p < 16 ⌝ ∗ ⌜ q < 16 ⌝ }
-        ensures { λ r. ⌜ r ≡ reading (now (self .entry)) (now (round .entry)) own p q ⌝ }
-    {
-        if p == q {
-            return own;
-        }
-        let player = self.players[q];
-        match player {
-            Player::Good { clock } => misread(round, p, q, clock),
-            Player::Bad => match round.heard(p, q) {
-                Heard::Once(ahead) => self.common.saturating_add(ahead),
-                Heard::Nothing | Heard::Several => own,
+        let heard = self.heard(round, p, clock.shown());
+        let step = clock.set(&self.cluster, p, &heard);
+        let time = self.run_on(round, p, step.clock.shown());
+        match step.answer {
+            Set::To(_) => Outcome::SetTo {
+                clock: step.clock,
+                time,
+            },
+            Set::Refused(refusal) => Outcome::Kept {
+                clock: step.clock,
+                time,
+                code: refusal.code(),
             },
         }
     }
 
-    // A clock that was set to a time, as the next round finds it.
+    // The deviation of each node, or nothing, as node p heard them.
+    fn heard(&self, round: &Round, p: usize, own: u64) -> [Option<i64>; MAX_NODES]
+        requires { ⌜ p < 16 ⌝ }
+        ensures { λ r. ⌜ r ≡ heard-by (now (self .entry)) (now (round .entry)) p own ⌝ }
+    {
+        let mut all = [None; MAX_NODES];
+        for q in 0..MAX_NODES {
+            all[q] = self.told(round, p, own, q);
+        }
+        all
+    }
+
+    // The deviation of node q, or nothing, as node p heard it.
+    fn told(&self, round: &Round, p: usize, own: u64, q: usize) -> Option<i64>
+        requires { ⌜ p < 16 ⌝ ∗ ⌜ q < 16 ⌝ }
+        ensures { λ r. ⌜ r ≡ told (now (self .entry)) (now (round .entry)) p own q ⌝ }
+    {
+        let player = self.players[q];
+        match player {
+            Player::Good { time, .. } => Some(deviation(reading(time, round.jitter(p, q)), own)),
+            Player::Bad => match round.heard(p, q) {
+                Heard::Once(ahead) => Some(deviation(self.common.saturating_add(ahead), own)),
+                Heard::Nothing | Heard::Several => None,
+            },
+        }
+    }
+
+    // What a clock that is set to a time shows as the next round ends.
     fn run_on(&self, round: &Round, p: usize, time: u64) -> u64
         requires { ⌜ p < 16 ⌝ }
         ensures { λ r. ⌜ r ≡ run-on (now (self .entry)) (now (round .entry)) p time ⌝ }
     {
-        shifted(time.saturating_add(self.span), round.drift(p))
+        reading(time.saturating_add(self.span), round.drift(p))
     }
 }
 
@@ -190,22 +208,8 @@ fn players_after(outcomes: &[Outcome; MAX_NODES]) -> [Player; MAX_NODES]
 {
     let mut players = [Player::Bad; MAX_NODES];
     for p in 0..MAX_NODES {
-        players[p] = outcomes[p].player();
+        let outcome = outcomes[p];
+        players[p] = outcome.player();
     }
     players
-}
-
-// What node p reads of the good node q, whose clock is given.
-fn misread(round: &Round, p: usize, q: usize, clock: u64) -> u64
-    requires { ⌜ p < 16 ⌝ ∗ ⌜ q < 16 ⌝ }
-    ensures { λ r. ⌜ r ≡ moved clock (jitter-of (now (round .entry)) p q) ⌝ }
-{
-    shifted(clock, round.jitter(p, q))
-}
-
-// A time moved by a signed number of ticks, held between 0 and the largest.
-fn shifted(time: u64, by: i64) -> u64
-    ensures { λ r. ⌜ r ≡ moved time by ⌝ }
-{
-    time.saturating_add_signed(by)
 }

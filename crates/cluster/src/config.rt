@@ -1,22 +1,21 @@
 //! Configurations, and why one is turned away.
 ghost use mathlib.Core.Path.{_≡_};
-ghost use Rattle.std.specs.Vec.{refused};
 ghost use Rattle.midpoint.specs.Refusals.{By-rows};
-ghost use Rattle.cluster.specs.Config.{code-of, Told-apart, Cluster-of, Timing-of, unfit-cluster, unfit-timing, error-of, width-of};
-use crate::limits::Cluster;
+ghost use Rattle.cluster.specs.Config.{code-of, Timing-of, unfit-timing};
 use crate::limits::Timing;
+use clock::Cluster;
+use clock::config::UnfitDisplay as ClusterUnfitDisplay;
 use midpoint::Code;
 use std::fmt;
 
 /// Why a configuration is turned away: the first that applies, in this order.
 #[derive(Clone, Copy)]
 pub enum Unfit {
-    Nodes,
-    Faults,
-    NodesForFaults,
-    Drift,
-    Jitter,
+    /// There is no cluster with these numbers.
+    Numbers(clock::Unfit),
+    /// The pause is too short.
     Pause,
+    /// The length of a slot is too short, or above 10^9.
     Length,
 }
 
@@ -25,15 +24,17 @@ impl Unfit {
     pub fn code(self) -> Code
         ensures { λ r. ⌜ r ≡ code-of self ⌝ }
     {
-        let (number, place) = match self {
-            Unfit::Nodes => (4, 0),
-            Unfit::Faults | Unfit::NodesForFaults => (4, 1),
-            Unfit::Drift => (5, 0),
-            Unfit::Jitter => (5, 1),
-            Unfit::Pause => (6, 0),
-            Unfit::Length => (6, 1),
-        };
-        Code { number, place }
+        match self {
+            Unfit::Numbers(unfit) => unfit.code(),
+            Unfit::Pause => Code {
+                number: 6,
+                place: 0,
+            },
+            Unfit::Length => Code {
+                number: 6,
+                place: 1,
+            },
+        }
     }
 }
 
@@ -42,61 +43,16 @@ pub impl fmt::Display for Unfit as UnfitDisplay {
         let code = self.code();
         let number = code.number;
         let place = code.place;
-        let why = match self {
-            Unfit::Nodes => "a cluster has 4 to 16 nodes",
-            Unfit::Faults => "a cluster allows at most 3 faults",
-            Unfit::NodesForFaults => "the nodes are not more than three times the faults",
-            Unfit::Drift => "the drift is above 1000",
-            Unfit::Jitter => "the jitter is above 1000",
-            Unfit::Pause => "the pause is shorter than width, error and drift together",
-            Unfit::Length =>
+        write!(f, "refused {number} at {place}: ")?;
+        match self {
+            Unfit::Numbers(unfit) => write!(f, "{unfit}"),
+            Unfit::Pause => f.write_str(
+                "the pause is shorter than width, error and drift together",
+            ),
+            Unfit::Length => f.write_str(
                 "the length is above 10^9, or shorter than pause, wire, width and message together",
-        };
-        write!(f, "refused {number} at {place}: {why}")
-    }
-}
-
-impl Cluster {
-    /// A cluster with these numbers, or the first reason why there is none.
-    pub fn new(nodes: u64, faults: u64, drift: u64, jitter: u64) -> Result<Cluster, Unfit>
-        ensures listed { λ r. ⌜ By-rows (unfit-cluster nodes faults drift jitter) code-of (Cluster-of nodes faults drift jitter) r ⌝ }
-        ensures told_apart { λ r. ⌜ refused r (Told-apart faults) ⌝ }
-    {
-        if nodes < 4 || nodes > 16 {
-            return Err(Unfit::Nodes);
+            ),
         }
-        if faults > 3 {
-            return Err(Unfit::Faults);
-        }
-        if nodes <= 3 * faults {
-            return Err(Unfit::NodesForFaults);
-        }
-        if drift > 1000 {
-            return Err(Unfit::Drift);
-        }
-        if jitter > 1000 {
-            return Err(Unfit::Jitter);
-        }
-        Ok(Cluster {
-            nodes,
-            faults,
-            drift,
-            jitter,
-        })
-    }
-
-    /// By how much a good node's reading of a good clock may be wrong.
-    pub fn error(&self) -> u64
-        ensures { λ r. ⌜ r ≡ error-of (now (self .entry)) ⌝ }
-    {
-        self.jitter + 2 * self.drift
-    }
-
-    // How far apart good clocks can come within a round.
-    fn width(&self) -> u64
-        ensures { λ r. ⌜ r ≡ width-of (now (self .entry)) ⌝ }
-    {
-        4 * self.error() + 4 * self.drift + 2 + 2 * self.drift
     }
 }
 
@@ -111,7 +67,7 @@ impl Timing {
     ) -> Result<Timing, Unfit>
         ensures { λ r. ⌜ By-rows (unfit-timing (now (cluster .entry)) slot pause message wire) code-of (Timing-of slot pause message wire) r ⌝ }
     {
-        if pause < cluster.width() + cluster.error() + cluster.drift {
+        if pause < cluster.width() + cluster.error() + cluster.drift() {
             return Err(Unfit::Pause);
         }
         let least = pause as u128 + wire as u128 + cluster.width() as u128 + message as u128;

@@ -1,7 +1,7 @@
 //! A cluster of which a script plays the faulty nodes: the good nodes' clocks, and what a round makes of
 //! them.
 //!
-//! - `limits`: the numbers of a cluster and of its slots, within their limits.
+//! - `limits`: the times of a cluster's slots, within their limits.
 //! - `config`: how these are made, and why a configuration is turned away.
 //! - `round`: what a script says of one round.
 //! - `clocks`: the good clocks, and one round after another.
@@ -18,7 +18,6 @@ pub use clocks::Outcome;
 pub use clocks::Played;
 pub use clocks::Player;
 pub use config::Unfit;
-pub use limits::Cluster;
 pub use limits::Timing;
 pub use round::Heard;
 pub use round::Round;

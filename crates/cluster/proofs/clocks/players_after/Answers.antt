@@ -5,7 +5,6 @@ use native.Mathlib.Omega.{arith}
 use lib.ListN.{length, take, getD}
 use Rattle.std.proofs.shelf.Lists.{take-more-set, map-more, take-all}
 use Rattle.cluster.specs.Rounds.{next-player}
-use Rattle.cluster.specs.declared.clocks.Outcome.the-variants.{Idle}
 use Rattle.cluster.proofs.clocks.players_after.Needs as need
 
 pub loop-p-again : need.loop-p-again
@@ -13,12 +12,14 @@ loop-p-again c =
     let p = c .loop-p .p in
     let done = c .loop-p .players in
     let outcomes = c .args .outcomes .now in
-    let long : length outcomes ≡ 16 = search needs in (
+    let long : length outcomes ≡ 16 = search needs in
+    let any = c .index-outcomes-p .result in
+    let next : c .player .result ≡ next-player (getD outcomes p any) = search needs in (
       search needs,
       take-more-set done p (c .player .result) (omega arith)
-          ∙ ap (λ y. take p done ++ y ∷ []) (c .player .ensures)
-          ∙ ap (λ t. t ++ next-player (getD outcomes p Idle) ∷ []) (c .loop-p .inv .1)
-          ∙ sym (map-more next-player outcomes p Idle (omega arith)),
+          ∙ ap (λ y. take p done ++ y ∷ []) next
+          ∙ ap (λ t. t ++ next-player (getD outcomes p any) ∷ []) (c .loop-p .inv .1)
+          ∙ sym (map-more next-player outcomes p any (omega arith)),
     )
 
 pub returns : need.returns
