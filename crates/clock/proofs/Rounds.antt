@@ -41,6 +41,17 @@ all-shown : (y : ℕ → ℕ) (a n : ℕ) → ((q : ℕ) → q < a + n → y q <
 all-shown y a zero each = refl
 all-shown y a (suc n) each = let ih = all-shown y (a + 1) n (λ q h. each q (omega arith)) in let here = each a (omega arith) in grind (arith, tells)
 
+-- so the readings of a cluster's nodes are not turned away
+pub not-turned-away : (c : Cluster) (y : ℕ → ℕ) → ((q : ℕ) → q < c .nodes → y q < clock-limit) →
+    first-applying (unusable (c .faults) (map y (counting 0 (c .nodes)))) ≡ None
+not-turned-away c y each =
+    let all = all-shown y 0 (c .nodes) (λ q h. each q (omega arith)) in
+    let long = length-map-counting y 0 (c .nodes) in
+    let e = c .enough in
+    let m = c .most in
+    let t = c .tolerated in
+    grind (arith, tells)
+
 module _ (c : Cluster) (good : ℕ → Bool) (heard : ℕ → List (Option ℤ)) (before after : ℕ → Moment) (few : Few-bad c good) (round : Round c good heard before after) where
   -- what p reads, by its place in rising order, and the place that has as many above it as may be faulty
   abbrev at : ℕ → ℕ → ℕ
@@ -49,21 +60,11 @@ module _ (c : Cluster) (good : ℕ → Bool) (heard : ℕ → List (Option ℤ))
   abbrev top : ℕ
   top = c .nodes - 1 - c .faults
 
-  not-turned-away : (p : ℕ) → Good-node c good p →
-      first-applying (unusable (c .faults) (map (read-by before heard p) (counting 0 (c .nodes)))) ≡ None
-  not-turned-away p g =
-      let all = all-shown (read-by before heard p) 0 (c .nodes) (λ q h. round .taken p q g (omega arith)) in
-      let long = length-map-counting (read-by before heard p) 0 (c .nodes) in
-      let e = c .enough in
-      let m = c .most in
-      let t = c .tolerated in
-      grind (arith, tells)
-
   is-set-to : (p : ℕ) → Good-node c good p → round .set p .shown ≡ (at p (c .faults) + at p top) / 2
   unfolding readings
   is-set-to p g =
       let long = length-map-counting (read-by before heard p) 0 (c .nodes) in
-      let t = not-turned-away p g in
+      let t = not-turned-away c (read-by before heard p) (λ q h. round .taken p q g h) in
       round .sets p g .its-shown ∙ rw (t, long)
 
   -- a good node reads good ones rightly up to the error, itself exactly
@@ -100,23 +101,33 @@ module _ (c : Cluster) (good : ℕ → Bool) (heard : ℕ → List (Option ℤ))
       let (s, gs, _, low) = some-good q q 0 (c .faults) gq gq (omega arith) (omega arith) in
       (some-good p q (c .faults) top gp gq (omega arith) (omega arith), (r, gr, high), (s, gs, low))
 
-pub halves : Halves
-halves c good heard before after d few round apart p q gp gq =
-    let (up, _) = round .runs p gp in
-    let (_, down) = round .runs q gq in
+-- what the settings leave them apart
+pub set-closer : (c : Cluster) (good : ℕ → Bool) (heard : ℕ → List (Option ℤ)) (before after : ℕ → Moment) (d : ℕ) → Few-bad c good →
+    (round : Round c good heard before after) → Apart c good d before → (p q : ℕ) → Good-node c good p → Good-node c good q →
+    round .set p .shown + before q .common ≤ round .set q .shown + before p .common + (d / 2 + 2 * error-of c + 1)
+set-closer c good heard before after d few round apart p q gp gq =
     let ((t, gt, over, under), (r, gr, high), (s, gs, low)) = tied c good heard before after few round p q gp gq in
-    uncrossed (after p) (after q) _ _ _
-    (omega (
+    omega (
       arith,
       is-set-to c good heard before after few round p gp,
       is-set-to c good heard before after few round q gq,
-      crossed (after p) (before p) _ _ _ up,
-      crossed (before q) (after q) _ _ _ down,
       crossed (before p) (before t) _ _ _ over,
       crossed (before t) (before q) _ _ _ under,
       crossed (before p) (before r) _ _ _ high,
       crossed (before s) (before q) _ _ _ low,
       crossed (before r) (before s) _ _ _ (apart r s gr gs),
+    )
+
+pub halves : Halves
+halves c good heard before after d few round apart p q gp gq =
+    let (up, _) = round .runs p gp in
+    let (_, down) = round .runs q gq in
+    uncrossed (after p) (after q) _ _ _
+    (omega (
+      arith,
+      set-closer c good heard before after d few round apart p q gp gq,
+      crossed (after p) (before p) _ _ _ up,
+      crossed (before q) (after q) _ _ _ down,
     ))
 
 -- a bound on how far good clocks are apart that a round keeps is kept by any number of them; it may change from round to round

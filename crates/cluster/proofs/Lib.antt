@@ -1,1 +1,3 @@
+mod Playing
+mod Possible
 mod Spans

@@ -26,6 +26,7 @@ use Rattle.cluster.specs.declared.clocks.Player.the-variants.{Good, Bad}
 use Rattle.cluster.specs.declared.clocks.Outcome.{Outcome}
 use Rattle.cluster.specs.declared.clocks.Outcome.the-variants.{Idle, SetTo, Kept}
 use Rattle.cluster.specs.declared.clocks.Clocks.{Clocks}
+use Rattle.cluster.specs.declared.clocks.Played.{Played}
 
 -- node p of the cluster, and whether it is a bad one
 abbrev pub player : Clocks → ℕ → Player
@@ -117,14 +118,22 @@ abbrev pub outcome : Clocks → Round → ℕ → Seen
 outcome c r p = outcome-of c r p (player c p)
 
 -- what the round makes of the node at each of the 16 places, past the cluster too
-abbrev pub outcomes : Clocks → Round → List Seen
-outcomes c r = map (outcome c r) (counting 0 16)
+abbrev pub outcomes-of : Clocks → Round → List Seen
+outcomes-of c r = map (outcome c r) (counting 0 16)
 
 -- the node in the next round
 abbrev pub next-player : Outcome → Player
 next-player Idle = Bad
 next-player (SetTo clock time) = Good clock time
 next-player (Kept clock time code) = Good clock time
+
+-- a round that was played: what it made of each node, and the cluster as the next round ends
+pub record Plays (c : Clocks) (r : Round) (played : Played) : Type 0 where
+  pub outcomes : map seen (played .outcomes) ≡ outcomes-of c r
+  pub players : played .clocks .players ≡ map next-player (played .outcomes)
+  pub common : played .clocks .common ≡ min (c .common + c .span) largest
+  pub span : played .clocks .span ≡ c .span
+  pub cluster : played .clocks .cluster ≡ c .cluster
 
 -- one message more of a bad node in its slot
 abbrev pub one-more : Heard → ℕ → Heard

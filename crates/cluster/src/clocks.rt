@@ -4,7 +4,7 @@ ghost use mathlib.Core.List.{map};
 ghost use Prim.Native.Nat.{_<_, _+_, _*_, min};
 ghost use lib.IntN.{pos, _-ℤ_};
 ghost use Rattle.clock.specs.Deviation.{largest, moved};
-ghost use Rattle.cluster.specs.Rounds.{seen, run-on, told, heard-by, settled, ended, outcome, outcomes, next-player};
+ghost use Rattle.cluster.specs.Rounds.{seen, run-on, told, heard-by, settled, ended, outcome, outcomes-of, next-player, Plays};
 use crate::limits::Timing;
 use crate::round::Heard;
 use crate::round::Round;
@@ -83,11 +83,7 @@ impl Clocks {
     /// The end of the round: each good node sets its clock by what it reads, and all clocks run on to the
     /// end of the next one.
     pub fn play(self, round: &Round) -> Played
-        ensures outcomes { λ r. ⌜ map seen (r .outcomes) ≡ outcomes self (now (round .entry)) ⌝ }
-        ensures players { λ r. ⌜ r .clocks .players ≡ map next-player (r .outcomes) ⌝ }
-        ensures common { λ r. ⌜ r .clocks .common ≡ min (self .common + self .span) largest ⌝ }
-        ensures span { λ r. ⌜ r .clocks .span ≡ self .span ⌝ }
-        ensures cluster { λ r. ⌜ r .clocks .cluster ≡ self .cluster ⌝ }
+        ensures { λ r. ⌜ Plays self (now (round .entry)) r ⌝ }
     {
         let outcomes = self.outcomes(round);
         let clocks = Clocks {
@@ -108,7 +104,7 @@ impl Clocks {
 
     // What the round makes of each node.
     fn outcomes(&self, round: &Round) -> [Outcome; MAX_NODES]
-        ensures { λ r. ⌜ map seen r ≡ outcomes (now (self .entry)) (now (round .entry)) ⌝ }
+        ensures { λ r. ⌜ map seen r ≡ outcomes-of (now (self .entry)) (now (round .entry)) ⌝ }
     {
         let mut all = [Outcome::Idle; MAX_NODES];
         for p in 0..MAX_NODES {

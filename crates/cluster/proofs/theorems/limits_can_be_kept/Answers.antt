@@ -1,4 +1,4 @@
-use Rattle.cluster.proofs.Spans.{limits-can-be-kept}
+use Rattle.cluster.proofs.Possible.{limits-can-be-kept}
 use Rattle.cluster.proofs.theorems.limits_can_be_kept.Needs as need
 
 pub returns : need.returns
