@@ -1,10 +1,9 @@
 -- How many flags at the front of a list are set. Assumes nothing.
-use mathlib.Core.Path.{_≡_, refl, ap}
+use mathlib.Core.Path.{_≡_, refl}
 use mathlib.Core.Bool.{Bool, true, false}
 use mathlib.Core.List.{List, [], _∷_}
 use Prim.Native.Nat.{ℕ, zero, suc, _+_}
 use native.Mathlib.Numerals.{add-one}
-use native.Mathlib.Omega.{arith}
 use lib.ListN.{getD, drop}
 use Rattle.std.proofs.shelf.Tests.{both-ways}
 use Rattle.std.specs.shelf.Lists.{leading}

@@ -333,6 +333,29 @@ fn behind_common_time(rt: LibcRuntime) -> Result<(), Fail> {
     says(rt.alloc(), text, "clocks -2 0 0\nclocks -1 0 0\n")
 }
 
+// A clock at 10^12 is turned away by its own number, before its readings are looked at. It runs on.
+#[test]
+fn clocks_at_the_limit(rt: LibcRuntime) -> Result<(), Fail> {
+    let text = "cluster nodes 4 faults 1 drift 0 jitter 0
+        timing length 457 pause 137 message 200 wire 8
+        good 0 value 1 ahead 999999999999
+        good 1 value 1 ahead 1000000000000
+        good 2 value 1 ahead 1000000000005
+        bad 3
+        round
+        round";
+    let expected = "refused 3 at 1: 0
+refused 3 at 1: 1
+refused 3 at 2: 2
+clocks 999999999999 1000000000000 1000000000005
+refused 3 at 0: 0
+refused 3 at 1: 1
+refused 3 at 2: 2
+clocks 999999999999 1000000000000 1000000000005
+";
+    says(rt.alloc(), text, expected)
+}
+
 // Comments, empty lines, line ends of two bytes, tabs, and no line end at all.
 #[test]
 fn layout(rt: LibcRuntime) -> Result<(), Fail> {

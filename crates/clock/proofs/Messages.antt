@@ -1,7 +1,6 @@
 -- The reading of a message, by way of its deviation. Assumes nothing.
 use borrow.Author.Differences.{ints}
 use native.Mathlib.Omega.{arith}
-use Rattle.std.proofs.shelf.Ways.{tells}
 use Rattle.clock.specs.Theorems.{Reads-as-said}
 
 pub reads-as-said : Reads-as-said

@@ -1,16 +1,14 @@
 -- Rounds as they are asked for exist, whatever the faulty nodes say: the good clocks show common time, and read each other as that. Assumes
 -- nothing.
 use borrow.Author.Differences.{ints}
-use mathlib.Core.Path.{_≡_, refl, sym, ap, _∙_}
-use mathlib.Core.Bool.{Bool, true, false, cond}
+use mathlib.Core.Path.{_≡_, refl, sym, _∙_}
+use mathlib.Core.Bool.{Bool, true, cond}
 use mathlib.Core.List.{List, map}
 use mathlib.Core.Logic.{inl, inr}
-use Prim.Native.Nat.{ℕ, suc, _+_, _≤_, _<_, min}
+use Prim.Native.Nat.{ℕ, suc, _≤_, _<_, min}
 use native.Mathlib.Omega.{arith}
-use lib.Dec.{eqb}
-use lib.IntN.{ℤ, pos, negsuc}
-use lib.Signed.{_<ℤ_}
-use lib.ListN.{getD, length}
+use lib.IntN.{ℤ, pos}
+use lib.ListN.{getD}
 use Rattle.std.proofs.shelf.Counted.{getD-map-counting, length-map-counting}
 use Rattle.std.proofs.shelf.Tests.{cases-bool}
 use Rattle.std.proofs.shelf.Ways.{tells}
@@ -22,9 +20,8 @@ use Rattle.midpoint.specs.Refusals.{first-applying}
 use Rattle.midpoint.specs.Setting.{unusable, clock-limit}
 use Rattle.midpoint.specs.declared.refusal.Code.{Code}
 use Rattle.midpoint.proofs.Ranks.{holds}
-use Rattle.clock.specs.Deviation.{moved}
 use Rattle.clock.specs.Setting.{read-of, readings, reads, unless}
-use Rattle.clock.specs.Rounds.{Moment, Good-node, Few-bad, Round, Rounds}
+use Rattle.clock.specs.Rounds.{Moment, Few-bad, Round}
 use Rattle.clock.specs.Theorems.{Lie-fits, Can-be-run}
 use Rattle.clock.specs.declared.limits.Clock.{Clock}
 use Rattle.clock.specs.declared.limits.Cluster.{Cluster}

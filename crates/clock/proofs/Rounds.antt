@@ -1,15 +1,14 @@
 -- What a round makes of the good clocks, and many rounds. Assumes nothing.
-use mathlib.Core.Path.{_≡_, refl, sym, ap, subst, _∙_}
-use mathlib.Core.Bool.{Bool, true, false, not}
+use mathlib.Core.Path.{_≡_, refl, sym, ap, _∙_}
+use mathlib.Core.Bool.{Bool, not}
 use mathlib.Core.List.{List, map}
 use mathlib.Core.Logic.{inl, inr}
 use Prim.Native.Nat.{ℕ, zero, suc, _+_, _*_, _-_, _/_, _^_, _≤_, _<_}
 use native.Mathlib.Nat.{div-div-eq-div-mul, div-one, pow-suc}
 use native.Mathlib.Omega.{arith}
 use lib.Dec.{eqb}
-use lib.IntN.{ℤ, pos, _+ℤ_, _-ℤ_}
+use lib.IntN.{ℤ, pos, _+ℤ_}
 use lib.Signed.{_≤ℤ_}
-use lib.ListN.{length, getD}
 use borrow.Author.Differences.{ints}
 use Rattle.std.proofs.shelf.Counted.{length-map-counting}
 use Rattle.std.proofs.shelf.Tests.{cases-bool, eqb-false, eqb-true, not-false}
@@ -18,12 +17,10 @@ use Rattle.std.specs.Iters.{counting}
 use Rattle.std.specs.declared.option.Option.{Option}
 use Rattle.std.specs.declared.option.Option.the-variants.{None}
 use Rattle.std.specs.shelf.Lists.{leading}
-use Rattle.midpoint.specs.Midpoint.{midpoint}
-use Rattle.midpoint.specs.Order.{sorted}
 use Rattle.midpoint.specs.Refusals.{first-applying}
 use Rattle.midpoint.specs.Setting.{unusable, shown, clock-limit}
 use Rattle.clock.specs.Config.{error-of, bound-of}
-use Rattle.clock.specs.Setting.{readings, settled}
+use Rattle.clock.specs.Setting.{readings}
 use Rattle.clock.specs.Rounds.{Moment, ahead, lead, Within, Good-node, Few-bad, Apart, read-by, Round, Rounds}
 use Rattle.clock.specs.Theorems.{Stays-together, Stays-in-width, Halves, Comes-together, Stays-between, Counts-together, rest-of}
 use Rattle.clock.specs.declared.limits.Cluster.{Cluster}

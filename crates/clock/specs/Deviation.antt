@@ -14,6 +14,7 @@ largest-signed = pos 9223372036854775807
 abbrev pub largest : ℕ
 largest = 18446744073709551615
 
+-- a number that stops at these two
 abbrev pub held : ℤ → ℤ
 held z = cond (ltZ z smallest-signed) smallest-signed (cond (ltZ largest-signed z) largest-signed z)
 

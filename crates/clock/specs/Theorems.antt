@@ -67,8 +67,8 @@ Reads-as-said =
     (own + due - began < clock-limit → moved own (deviation-of due began) ≡ own + due - began)
     × (clock-limit ≤ own + due - began → clock-limit ≤ moved own (deviation-of due began))
 
--- What a round asks can be met for any number of rounds, whatever the faulty nodes make each node read: for any lies that come less than
--- 4 * 10^11 ahead there are rounds in which each good node heard them.
+-- What a round asks can be met for 5 * 10^11 rounds, whatever the faulty nodes make each node read: for any lies that come less than 4 * 10^11
+-- ahead there are rounds in which each good node heard them. More of both does not go with clocks below 10^12.
 abbrev pub Lie-fits : Option ℤ → Type 0
 Lie-fits None = Unit {0}
 Lie-fits (Some deviation) = deviation <ℤ pos 400000000000

@@ -2,6 +2,7 @@
 //! functions that make them, since an invariant cannot import a specification that names its type.
 ghost use mathlib.Core.Path.{_≡_};
 ghost use Prim.Native.Nat.{_*_, _≤_, _<_};
+ghost use Rattle.midpoint.specs.Setting.{clock-limit};
 
 /// How many nodes there are and how many may be faulty, by how much a clock runs off from one setting
 /// to the next, and by how much a reading is wrong.
@@ -57,7 +58,7 @@ impl Cluster {
 pub struct Clock {
     pub(crate) shown: u64,
     pub(crate) round: u64,
-    ghost below: { shown < 1000000000000 },
+    ghost below: { shown < clock-limit },
 }
 
 impl Clock {

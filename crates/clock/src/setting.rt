@@ -57,7 +57,9 @@ impl Clock {
         Clock { shown: 0, round: 0 }
     }
 
-    /// Local time goes on: the clock of this node shows a time. Refused, it is as before.
+    /// Local time goes on: the clock of this node shows a time. One of 10^12 or more is refused, 3 at the
+    /// node's number, and one earlier than the last, 12 at 0; the clock is then as before. Only the setting
+    /// takes a clock back.
     pub fn go_on(self, node: usize, time: u64) -> Step<Result<(), Refusal>>
         ensures answer { λ r. ⌜ By-rows (untimely (self .shown) node time) code-of (λ _. Unit {0}) (r .answer) ⌝ }
         ensures clock { λ r. ⌜ Gone-on self node time (r .clock) ⌝ }
@@ -83,10 +85,10 @@ impl Clock {
         }
     }
 
-    /// The end of a round: the clock of this node is set to the midpoint of what it reads of all nodes of
-    /// the cluster. Of each node its deviation was heard, or nothing. Where the readings are turned away
-    /// the clock stays as it is. The next round begins in both cases; the last that a round can be
-    /// numbered is 2^64 - 1.
+    /// The end of a round, at the time that the clock shows: it is set to the midpoint of what this node reads
+    /// of all nodes of the cluster. Of each node its deviation was heard, or nothing; then, and of itself, the
+    /// node reads its own clock, so that there are always as many readings as nodes. Readings that are turned
+    /// away leave the clock as it is. The round counts on in both cases, up to 2^64 - 1.
     pub fn set(self, cluster: &Cluster, node: usize, heard: &[Option<i64>; MAX_NODES]) -> Step<Set>
         ensures answer { λ r. ⌜ Set-says (now (cluster .entry) .faults) (readings (now (cluster .entry) .nodes) node (self .shown) (now (heard .entry))) (r .answer) ⌝ }
         ensures clock { λ r. ⌜ Set-by (now (cluster .entry)) node self (now (heard .entry)) (r .clock) ⌝ }

@@ -281,3 +281,21 @@ fn goes_on_from_the_setting() -> Result<(), Fail> {
     shows(again.clock, 985, 2)?;
     check_eq(again.clock.go_on(2, 984).answer, Err(Refusal::Earlier))
 }
+
+#[test]
+fn rounds_end() -> Result<(), Fail> {
+    let last = Clock {
+        shown: 5,
+        round: LARGEST,
+    };
+    let step = last.set(&Cluster::new(4, 1, 0, 0)?, 2, &SILENT);
+    shows(step.clock, 5, LARGEST)
+}
+
+// A node past the cluster reads none of the nodes as itself.
+#[test]
+fn no_node_of_the_cluster() -> Result<(), Fail> {
+    let heard = first_four([Some(2), Some(4), Some(6), Some(8)]);
+    let step = clock_at(1000).set(&Cluster::new(4, 1, 0, 0)?, 4, &heard);
+    check_eq(step.answer, Set::To(1005))
+}

@@ -1,21 +1,18 @@
 -- A round that is played, as a round of clocks: what it makes of the good clocks is what the theorems of the clock say. Assumes nothing.
 use borrow.Author.Differences.{ints}
 use mathlib.Core.Path.{_≡_, refl, sym, ap, subst, _∙_}
-use mathlib.Core.Bool.{true, false}
-use mathlib.Core.List.{List, map}
-use mathlib.Core.Logic.{inl, inr}
+use mathlib.Core.Bool.{true}
+use mathlib.Core.List.{List}
 use Prim.Native.Nat.{ℕ, zero, suc, _+_, _*_, _-_, _/_, _≤_, _<_, min}
 use native.Mathlib.Omega.{arith}
-use lib.Dec.{eqb}
-use lib.IntN.{ℤ, pos, natAbs}
+use lib.IntN.{ℤ, natAbs}
 use lib.ListN.{length, getD}
 use Rattle.std.proofs.shelf.Counted.{length-map-counting, getD-map-counting}
 use Rattle.std.proofs.shelf.Lists.{getD-map, length-map}
-use Rattle.std.proofs.shelf.Tests.{cases-bool, eqb-true, eq-eqb}
+use Rattle.std.proofs.shelf.Tests.{eq-eqb}
 use Rattle.std.proofs.shelf.Ways.{tells}
-use Rattle.std.specs.Iters.{counting}
 use Rattle.std.specs.declared.option.Option.{Option}
-use Rattle.std.specs.declared.option.Option.the-variants.{Some, None}
+use Rattle.std.specs.declared.option.Option.the-variants.{None}
 use Rattle.midpoint.specs.Midpoint.{midpoint}
 use Rattle.midpoint.specs.Refusals.{first-applying}
 use Rattle.midpoint.specs.Setting.{unusable, clock-limit}

@@ -1,21 +1,19 @@
 -- A cluster and a round that keep the limits that the theorems ask for. Assumes nothing.
 use borrow.Author.Differences.{ints}
-use mathlib.Core.Path.{_≡_, refl, sym, subst}
+use mathlib.Core.Path.{_≡_, refl}
 use mathlib.Core.Bool.{false}
 use mathlib.Core.List.{_∷_}
-use mathlib.Core.Logic.{_⊎_, inl, inr}
-use Prim.Native.Nat.{ℕ, zero, suc, _+_, _*_, _≤_, _<_}
+use Prim.Native.Nat.{ℕ, zero, suc, _+_, _≤_, _<_}
 use native.Mathlib.Omega.{arith}
 use lib.Dec.{eqb, lit≤}
-use lib.IntN.{ℤ, pos, natAbs}
+use lib.IntN.{ℤ, pos}
 use lib.ListN.{replicate}
 use Rattle.std.proofs.shelf.Tests.{ne-eqb}
-use Rattle.std.proofs.shelf.Ways.{tells}
 use Rattle.midpoint.specs.Order.{count}
 use Rattle.midpoint.specs.Setting.{clock-limit}
 use Rattle.clock.specs.Setting.{reads, read-of}
 use Rattle.clock.specs.declared.limits.Clock.{Clock}
-use Rattle.cluster.specs.Rounds.{player, heard-of, jitter-of, told-by, heard-by}
+use Rattle.cluster.specs.Rounds.{heard-of, jitter-of, told-by, heard-by}
 use Rattle.cluster.specs.Theorems.{Shows, Lie-fits, Limits-can-be-kept}
 use Rattle.cluster.specs.declared.round.Heard.{Heard}
 use Rattle.cluster.specs.declared.round.Heard.the-variants.{Nothing, Once, Several}

@@ -1,9 +1,8 @@
 //! The good clocks of a cluster, and what a round makes of them.
 ghost use mathlib.Core.Path.{_≡_};
 ghost use mathlib.Core.List.{map};
-ghost use Prim.Native.Nat.{_<_, _+_, _*_, min};
+ghost use Prim.Native.Nat.{_<_, _*_};
 ghost use lib.IntN.{pos, _-ℤ_};
-ghost use Rattle.clock.specs.Deviation.{largest, moved};
 ghost use Rattle.cluster.specs.Rounds.{seen, run-on, told, heard-by, settled, ended, outcome, outcomes-of, next-player, Plays};
 use crate::limits::Timing;
 use crate::round::Heard;

@@ -1,4 +1,3 @@
-use mathlib.Core.Path.{_∙_, sym}
 use lib.Dec.{eqb}
 use Rattle.std.specs.Keys.{unsigned}
 use Rattle.std.proofs.shelf.Sorted.{rises-from-sort}
