@@ -64,25 +64,29 @@ impl Clock {
         ensures answer { λ r. ⌜ By-rows (untimely (self .shown) node time) code-of (λ _. Unit {0}) (r .answer) ⌝ }
         ensures clock { λ r. ⌜ Gone-on self node time (r .clock) ⌝ }
     {
+        let answer = self.timely(node, time);
+        let shown = match answer {
+            Ok(()) => time,
+            Err(_) => self.shown,
+        };
+        let clock = Clock {
+            shown,
+            round: self.round,
+        };
+        Step { clock, answer }
+    }
+
+    // Whether the clock can go on to a time.
+    fn timely(self, node: usize, time: u64) -> Result<(), Refusal>
+        ensures { λ r. ⌜ By-rows (untimely (self .shown) node time) code-of (λ _. Unit {0}) r ⌝ }
+    {
         if time >= CLOCK_LIMIT {
-            return Step {
-                clock: self,
-                answer: Err(Refusal::PastLimit { node }),
-            };
+            return Err(Refusal::PastLimit { node });
         }
         if time < self.shown {
-            return Step {
-                clock: self,
-                answer: Err(Refusal::Earlier),
-            };
+            return Err(Refusal::Earlier);
         }
-        Step {
-            clock: Clock {
-                shown: time,
-                round: self.round,
-            },
-            answer: Ok(()),
-        }
+        Ok(())
     }
 
     /// The end of a round, at the time that the clock shows: it is set to the midpoint of what this node reads
