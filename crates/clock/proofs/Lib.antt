@@ -1,3 +1,4 @@
+pub mod Choosable
 pub mod Filled
 pub mod Messages
 pub mod Nodes

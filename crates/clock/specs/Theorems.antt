@@ -4,7 +4,7 @@ use mathlib.Core.Path.{_≡_}
 use mathlib.Core.Bool.{Bool, false}
 use mathlib.Core.List.{List}
 use Prim.Native.Nat.{ℕ, _+_, _*_, _-_, _/_, _^_, _≤_, _<_}
-use lib.IntN.{ℤ, pos, _+ℤ_}
+use lib.IntN.{ℤ, pos, natAbs, _+ℤ_}
 use lib.Signed.{_≤ℤ_, _<ℤ_}
 use lib.ListN.{getD}
 use Rattle.std.specs.declared.option.Option.{Option}
@@ -12,7 +12,7 @@ use Rattle.std.specs.declared.option.Option.the-variants.{Some, None}
 use Rattle.midpoint.specs.Setting.{clock-limit}
 use Rattle.clock.specs.Config.{error-of, bound-of, width-of}
 use Rattle.clock.specs.Deviation.{deviation-of, moved, largest}
-use Rattle.clock.specs.Rounds.{Moment, lead, Within, Good-node, Few-bad, Apart, Round, Rounds}
+use Rattle.clock.specs.Rounds.{Moment, ahead, lead, Within, Good-node, Few-bad, Apart, read-by, Round, Rounds}
 use Rattle.clock.specs.declared.limits.Cluster.{Cluster}
 
 -- Good clocks that are within the bound are within it after any number of rounds.
@@ -84,3 +84,27 @@ abbrev pub Can-be-run : Type 0
 Can-be-run =
     (c : Cluster) (good : ℕ → Bool) (lies : ℕ → ℕ → ℕ → Option ℤ) (k : ℕ) → Few-bad c good → ((j p q : ℕ) → Lie-fits (lies j p q)) →
     k < 500000000000 → Possible c good lies k
+
+-- And nothing of a round is chosen beforehand: from any good clocks that are some 10^9 apart at most, and far enough from 0 and from the limit, for
+-- any errors of their readings, any lies, and any running off, as far as the cluster allows, there is such a round.
+pub record Start (c : Cluster) (good : ℕ → Bool) (before : ℕ → Moment) : Type 0 where
+  pub near : Apart c good 1000000000 before
+  pub room : (p : ℕ) → Good-node c good p → (10000000000 ≤ before p .clock .shown) × (before p .clock .shown ≤ 400000000000)
+
+pub record Chosen
+    (c : Cluster) (good : ℕ → Bool) (before : ℕ → Moment) (errors : ℕ → ℕ → ℤ) (lies : ℕ → ℕ → Option ℤ) (offs : ℕ → ℤ) : Type 0 where
+  pub heard : ℕ → List (Option ℤ)
+  pub after : ℕ → Moment
+  pub round : Round c good heard before after
+  pub lied : (p q : ℕ) → q < c .nodes → good q ≡ false → getD (heard p) q None ≡ lies p q
+  pub erred :
+      (p q : ℕ) → Good-node c good p → Good-node c good q → (p ≡ q → ⊥) →
+      ahead (before p) (read-by before heard p q) ≡ lead (before q) +ℤ errors p q
+  pub ran : (p : ℕ) → Good-node c good p → lead (after p) ≡ ahead (before p) (round .set p .shown) +ℤ offs p
+  pub later : (p : ℕ) → Good-node c good p → before p .common < after p .common
+
+abbrev pub Can-be-chosen : Type 0
+Can-be-chosen =
+    (c : Cluster) (good : ℕ → Bool) (before : ℕ → Moment) (errors : ℕ → ℕ → ℤ) (lies : ℕ → ℕ → Option ℤ) (offs : ℕ → ℤ) → Start c good before →
+    ((p q : ℕ) → natAbs (errors p q) ≤ error-of c) → ((p q : ℕ) → Lie-fits (lies p q)) → ((p : ℕ) → natAbs (offs p) ≤ c .drift) →
+    Chosen c good before errors lies offs

@@ -1,6 +1,6 @@
 //! The theorems of this crate. Each function's contract is one statement of `specs/Theorems.antt`, so
 //! that the crate is not proved without it; what the function does is nothing.
-ghost use Rattle.clock.specs.Theorems.{Stays-together, Stays-in-width, Halves, Comes-together, Stays-between, Counts-together, Reads-as-said, Can-be-run};
+ghost use Rattle.clock.specs.Theorems.{Stays-together, Stays-in-width, Halves, Comes-together, Stays-between, Counts-together, Reads-as-said, Can-be-run, Can-be-chosen};
 
 /// Good clocks within the bound are within it after any number of rounds.
 pub fn good_clocks_stay_together() -> u8
@@ -54,6 +54,14 @@ pub fn reading_is_as_said() -> u8
 /// What the theorems ask of rounds can be met, whatever the faulty nodes say.
 pub fn rounds_can_be_run() -> u8
     ensures { λ _. ⌜ Can-be-run ⌝ }
+{
+    0
+}
+
+/// Nor do they ask for more: from any good clocks there is a round for any errors, lies and running off
+/// that the cluster allows.
+pub fn rounds_can_be_chosen() -> u8
+    ensures { λ _. ⌜ Can-be-chosen ⌝ }
 {
     0
 }

@@ -60,7 +60,7 @@ same-time c p x y a b e f = let g : Good a x ≡ Good b y = sym e ∙ f in cc
 
 pub not-pulled-out : Not-pulled-out
 unfolding readings
-not-pulled-out c r p x low high most a few span fits g near =
+not-pulled-out c r p x low high most a few span fits small g near =
     let y : ℕ → ℕ = reads p x (heard-by c r p x) in
     let (lx, hx) = span p x a g in
     let outer =
@@ -69,7 +69,7 @@ not-pulled-out c r p x low high most a few span fits g near =
     let (b, time, s) = shows c q (player c q) h refl good in
     let (l, u) = span q time b s in
     let (under, over) =
-    reads-near c r p x q time most b (omega arith) (omega arith) (omega arith) s
+    reads-near c r p x q time most b (omega arith) (omega arith) small s
     (λ e. same-time c q x time a b (ap (player c) (sym e) ∙ g .1) (s .1)) (near q time b s) in
     (omega arith, omega arith)) in
     let long = length-map-counting y 0 (c .cluster .nodes) in

@@ -67,8 +67,8 @@ Spanned c low high = (q y : ℕ) (b : Clock) → Shows c q b y → (low ≤ y) �
 
 abbrev pub Not-pulled-out : Type 0
 Not-pulled-out =
-    (c : Clocks) (r : Round) (p x low high most : ℕ) (a : Clock) → Few-bad (c .cluster) (good-in c) → Spanned c low high → high + most < clock-limit →
-    Shows c p a x → ((q y : ℕ) (b : Clock) → Shows c q b y → (p ≡ q → ⊥) → natAbs (jitter-of r p q) ≤ most) →
+    (c : Clocks) (r : Round) (p x low high most : ℕ) (a : Clock) → Few-bad (c .cluster) (good-in c) → Spanned c low high → high < clock-limit →
+    most ≤ clock-limit → Shows c p a x → ((q y : ℕ) (b : Clock) → Shows c q b y → (p ≡ q → ⊥) → natAbs (jitter-of r p q) ≤ most) →
     (low ≤ midpoint (c .cluster .faults) (all-read c r p x) + most) × (midpoint (c .cluster .faults) (all-read c r p x) ≤ high + most)
 
 -- a lie that comes to no more than half of the limit
