@@ -9,23 +9,23 @@ use native.Mathlib.Omega.{arith}
 use lib.Dec.{eqb}
 use lib.IntN.{ℤ, pos, negsuc, natAbs, _+ℤ_, _-ℤ_}
 use lib.Signed.{_<ℤ_, _≤ℤ_}
-use lib.ListN.{getD}
-use Rattle.std.proofs.shelf.Counted.{getD-map-counting, length-map-counting}
+use Rattle.std.proofs.shelf.Counted.{length-map-counting}
 use Rattle.std.proofs.shelf.Tests.{cases-bool, eqb-false, ne-eqb}
 use Rattle.std.specs.Iters.{counting}
 use Rattle.std.specs.declared.option.Option.{Option}
-use Rattle.std.specs.declared.option.Option.the-variants.{Some, None}
+use Rattle.std.specs.declared.option.Option.the-variants.{Some}
 use Rattle.midpoint.specs.Midpoint.{midpoint}
 use Rattle.midpoint.specs.Order.{count}
 use Rattle.midpoint.specs.Setting.{clock-limit}
 use Rattle.midpoint.proofs.Ranks.{holds}
 use Rattle.clock.specs.Config.{error-of}
 use Rattle.clock.specs.Deviation.{counted, moved}
-use Rattle.clock.specs.Setting.{read-of, readings, reads, settled, next-round}
+use Rattle.clock.specs.Setting.{readings, reads, settled, next-round}
 use Rattle.clock.specs.Rounds.{Moment, ahead, lead, Good-node, Round}
-use Rattle.clock.specs.Theorems.{Lie-fits, Start, Can-be-chosen}
+use Rattle.clock.specs.Theorems.{Is-signed, Lie-fits, Start, Can-be-chosen}
 use Rattle.clock.specs.declared.limits.Clock.{Clock}
 use Rattle.clock.specs.declared.limits.Cluster.{Cluster}
+use Rattle.clock.proofs.Heard.{as-heard, heard-of, is-handed, lie-signed, lie-read}
 use Rattle.clock.proofs.Nodes.{few-outside}
 use Rattle.clock.proofs.Rounds.{not-turned-away}
 
@@ -54,10 +54,6 @@ module _ (own at there at′ : ℕ) (by : ℤ) (l : 10000000000 ≤ own) (h : ow
   read-wrong : (moved own deviation < most) × (pos (moved own deviation) -ℤ pos at ≡ (pos there -ℤ pos at′) +ℤ by)
   read-wrong = let w = wrong-exact in (omega (arith, ints), omega (arith, ints))
 
-lie-below : (own : ℕ) (lie : Option ℤ) → own ≤ 400000000000 → Lie-fits lie → read-of own lie < most
-lie-below own None h f = omega arith
-lie-below own (Some deviation) h f = grind (arith, ints)
-
 none-fails : (xs : List ℕ) → count (λ q. false) xs ≡ 0
 unfolding count
 none-fails [] = refl
@@ -72,10 +68,18 @@ module _ (c : Cluster) (good : ℕ → Bool) (before : ℕ → Moment) (errors :
   hears p q = cond (good q) (Some ((lead (before q) -ℤ lead (before p)) +ℤ errors p q)) (lies p q)
 
   abbrev all-heard : ℕ → List (Option ℤ)
-  all-heard p = map (hears p) (counting 0 (c .nodes))
+  all-heard p = as-heard (c .nodes) (hears p)
 
-  heard-of : (p q : ℕ) → q < c .nodes → getD (all-heard p) q None ≡ hears p q
-  heard-of p q h = getD-map-counting (hears p) 0 (c .nodes) q q None h (omega arith)
+  fits-all : (p q : ℕ) → Good-node c good p → q < c .nodes → Is-signed (hears p q)
+  fits-all p q g h =
+      elim (cases-bool (good q)) [
+        | inl gq ↦
+            let over = start .near q p (h, gq) g in
+            let under = start .near p q g (h, gq) in
+            let error : natAbs (errors p q) ≤ 3000 = omega (arith, small p q, c .steady, c .exact) in
+            rw gq (omega (arith, ints), omega (arith, ints))
+        | inr b ↦ rw b (lie-signed (lies p q) (fits p q))
+      ]
 
   abbrev reading : ℕ → ℕ → ℕ
   reading p q = reads p (own p) (all-heard p) q
@@ -83,7 +87,7 @@ module _ (c : Cluster) (good : ℕ → Bool) (before : ℕ → Moment) (errors :
   reads-good : (p q : ℕ) → Good-node c good p → Good-node c good q → (p ≡ q → ⊥) →
       (reading p q < most) × (ahead (before p) (reading p q) ≡ lead (before q) +ℤ errors p q)
   reads-good p q gp gq d =
-      let e = heard-of p q (gq .0) in
+      let e = heard-of (c .nodes) (c .most) (hears p) q (gq .0) in
       let g = gq .1 in
       let other = ne-eqb q p (λ s. d (sym s)) in
       let (l, h) = start .room p gp in
@@ -94,13 +98,13 @@ module _ (c : Cluster) (good : ℕ → Bool) (before : ℕ → Moment) (errors :
   reads-below : (p q : ℕ) → Good-node c good p → q < c .nodes → reading p q < most
   reads-below p q g h =
       let (l, u) = start .room p g in
-      let e = heard-of p q h in
+      let e = heard-of (c .nodes) (c .most) (hears p) q h in
       elim (cases-bool (eqb q p)) [
         | inl same ↦ rw same (omega arith)
         | inr other ↦
             elim (cases-bool (good q)) [
               | inl gq ↦ reads-good p q g (h, gq) (λ d. eqb-false q p other (sym d)) .0
-              | inr b ↦ rw (other, e, b) (lie-below (own p) (lies p q) u (fits p q))
+              | inr b ↦ let f = lie-read (own p) (lies p q) (fits p q) in rw (other, e, b) (omega arith)
             ]
       ]
 
@@ -157,7 +161,10 @@ can-be-chosen c good before errors lies offs start small fits steady = record {
   heard = all-heard c good before errors lies offs start small fits steady;
   after = run c good before errors lies offs start small fits steady;
   round = one-round c good before errors lies offs start small fits steady;
-  lied = λ p q h b. heard-of c good before errors lies offs start small fits steady p q h ∙ rw b;
+  handed = λ p g.
+      is-handed (c .nodes) (c .most) (hears c good before errors lies offs start small fits steady p)
+      (λ q h. fits-all c good before errors lies offs start small fits steady p q g h);
+  lied = λ p q h b. heard-of (c .nodes) (c .most) (hears c good before errors lies offs start small fits steady p) q h ∙ rw b;
   erred = λ p q gp gq d. reads-good c good before errors lies offs start small fits steady p q gp gq d .1;
   ran = λ p g. runs-off c good before errors lies offs start small fits steady p;
   later = λ p g. omega arith;

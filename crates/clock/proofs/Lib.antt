@@ -1,5 +1,6 @@
 pub mod Choosable
 pub mod Filled
+pub mod Heard
 pub mod Messages
 pub mod Nodes
 pub mod Possible

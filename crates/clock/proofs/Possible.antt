@@ -8,8 +8,7 @@ use mathlib.Core.Logic.{inl, inr}
 use Prim.Native.Nat.{ℕ, suc, _≤_, _<_, min}
 use native.Mathlib.Omega.{arith}
 use lib.IntN.{ℤ, pos}
-use lib.ListN.{getD}
-use Rattle.std.proofs.shelf.Counted.{getD-map-counting, length-map-counting}
+use Rattle.std.proofs.shelf.Counted.{length-map-counting}
 use Rattle.std.proofs.shelf.Tests.{cases-bool}
 use Rattle.std.proofs.shelf.Ways.{tells}
 use Rattle.std.specs.Iters.{counting}
@@ -20,11 +19,12 @@ use Rattle.midpoint.specs.Refusals.{first-applying}
 use Rattle.midpoint.specs.Setting.{unusable, clock-limit}
 use Rattle.midpoint.specs.declared.refusal.Code.{Code}
 use Rattle.midpoint.proofs.Ranks.{holds}
-use Rattle.clock.specs.Setting.{read-of, readings, reads, unless}
+use Rattle.clock.specs.Setting.{readings, reads, unless}
 use Rattle.clock.specs.Rounds.{Moment, Few-bad, Round}
-use Rattle.clock.specs.Theorems.{Lie-fits, Can-be-run}
+use Rattle.clock.specs.Theorems.{Is-signed, Lie-fits, Can-be-run}
 use Rattle.clock.specs.declared.limits.Clock.{Clock}
 use Rattle.clock.specs.declared.limits.Cluster.{Cluster}
+use Rattle.clock.proofs.Heard.{as-heard, heard-of, is-handed, lie-signed, lie-read}
 use Rattle.clock.proofs.Nodes.{few-outside}
 
 -- a clock that shows the number of its round, up to a number that is not reached
@@ -41,30 +41,30 @@ either-way : (o : Option Code) (own time : ℕ) → time ≡ own → own ≡ unl
 either-way None own time e = sym e
 either-way (Some code) own time e = refl
 
-below-limit : (own : ℕ) (lie : Option ℤ) → own ≤ last → Lie-fits lie → read-of own lie < clock-limit
-below-limit own None h f = omega arith
-below-limit own (Some deviation) h f = grind (arith, ints)
-
 module _ (c : Cluster) (good : ℕ → Bool) (lies : ℕ → ℕ → ℕ → Option ℤ) (few : Few-bad c good) (fits : (j p q : ℕ) → Lie-fits (lies j p q)) where
   -- good nodes are heard when they are due
   abbrev hears : ℕ → ℕ → ℕ → Option ℤ
   hears j p q = cond (good q) (Some (pos 0)) (lies j p q)
 
   abbrev all-heard : ℕ → ℕ → List (Option ℤ)
-  all-heard j p = map (hears j p) (counting 0 (c .nodes))
+  all-heard j p = as-heard (c .nodes) (hears j p)
 
-  heard-of : (j p q : ℕ) → q < c .nodes → getD (all-heard j p) q None ≡ hears j p q
-  heard-of j p q h = getD-map-counting (hears j p) 0 (c .nodes) q q None h (omega arith)
+  fits-all : (j p q : ℕ) → Is-signed (hears j p q)
+  fits-all j p q =
+      elim (cases-bool (good q)) [
+        | inl g ↦ rw g (omega (arith, ints), omega (arith, ints))
+        | inr b ↦ rw b (lie-signed (lies j p q) (fits j p q))
+      ]
 
   reads-good : (own j p q : ℕ) → own ≤ last → q < c .nodes → good q ≡ true → reads p own (all-heard j p) q ≡ own
-  reads-good own j p q l h g = let e = heard-of j p q h in rw (e, g) (grind (arith, tells))
+  reads-good own j p q l h g = let e = heard-of (c .nodes) (c .most) (hears j p) q h in rw (e, g) (grind (arith, tells))
 
   reads-below : (own j p q : ℕ) → own ≤ last → q < c .nodes → reads p own (all-heard j p) q < clock-limit
   reads-below own j p q l h =
-      let e = heard-of j p q h in
+      let e = heard-of (c .nodes) (c .most) (hears j p) q h in
       elim (cases-bool (good q)) [
         | inl g ↦ omega (arith, reads-good own j p q l h g)
-        | inr b ↦ let f = below-limit own (lies j p q) l (fits j p q) in rw (e, b) (grind (arith, tells))
+        | inr b ↦ let f = lie-read own (lies j p q) (fits j p q) in rw (e, b) (grind (arith, tells))
       ]
 
   sets-to : (own j p : ℕ) → own ≤ last → midpoint (c .faults) (readings (c .nodes) p own (all-heard j p)) ≡ own
@@ -98,5 +98,6 @@ can-be-run c good lies k few fits h = record {
   moments = moment-at;
   together = λ p q gp gq. omega (arith, ints);
   rounds = λ j l. one-round c good lies few fits j (omega arith);
-  lied = λ j p q l b. heard-of c good lies few fits j p q l ∙ rw b;
+  handed = λ j p. is-handed (c .nodes) (c .most) (hears c good lies few fits j p) (λ q l. fits-all c good lies few fits j p q);
+  lied = λ j p q l b. heard-of (c .nodes) (c .most) (hears c good lies few fits j p) q l ∙ rw b;
 }

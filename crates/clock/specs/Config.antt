@@ -5,6 +5,7 @@ use mathlib.Core.List.{List, [], _∷_}
 use Prim.Native.Nat.{ℕ, _+_, _*_, _≤_, _<_}
 use lib.Dec.{leb, ltb}
 use Rattle.midpoint.specs.Refusals.{Row, row}
+use Rattle.midpoint.specs.Setting.{most-readings}
 use Rattle.midpoint.specs.declared.refusal.Code.{Code}
 use Rattle.clock.specs.declared.limits.Cluster.{Cluster}
 use Rattle.clock.specs.declared.config.Unfit.{Unfit}
@@ -13,7 +14,7 @@ use Rattle.clock.specs.declared.config.Unfit.the-variants.{Nodes, Faults, Node
 -- nodes outside of 4 to 16; faults above 3, or nodes that are not more than three times the faults; drift above 1000; jitter above 1000
 abbrev pub unfit : ℕ → ℕ → ℕ → ℕ → List (Row Code)
 unfit nodes faults drift jitter =
-    row 4 (not (leb 4 nodes && leb nodes 16)) 0
+    row 4 (not (leb 4 nodes && leb nodes most-readings)) 0
     ∷ row 4 (ltb 3 faults || leb nodes (3 * faults)) 1
     ∷ row 5 (ltb 1000 drift) 0
     ∷ row 5 (ltb 1000 jitter) 1

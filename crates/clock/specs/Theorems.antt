@@ -6,12 +6,12 @@ use mathlib.Core.List.{List}
 use Prim.Native.Nat.{ℕ, _+_, _*_, _-_, _/_, _^_, _≤_, _<_}
 use lib.IntN.{ℤ, pos, natAbs, _+ℤ_}
 use lib.Signed.{_≤ℤ_, _<ℤ_}
-use lib.ListN.{getD}
+use lib.ListN.{length, getD}
 use Rattle.std.specs.declared.option.Option.{Option}
 use Rattle.std.specs.declared.option.Option.the-variants.{Some, None}
 use Rattle.midpoint.specs.Setting.{clock-limit}
 use Rattle.clock.specs.Config.{error-of, bound-of, width-of}
-use Rattle.clock.specs.Deviation.{deviation-of, moved, largest}
+use Rattle.clock.specs.Deviation.{smallest-signed, largest-signed, deviation-of, moved, largest}
 use Rattle.clock.specs.Rounds.{Moment, ahead, lead, Within, Good-node, Few-bad, Apart, read-by, Round, Rounds}
 use Rattle.clock.specs.declared.limits.Cluster.{Cluster}
 
@@ -59,25 +59,35 @@ Counts-together =
     Rounds c good heard m k → ((p : ℕ) → Good-node c good p → m 0 p .clock .round ≡ round) →
     (p : ℕ) → Good-node c good p → m k p .clock .round ≡ round + k
 
--- The reading of a message is the own clock and the time at which the message was due to begin, less the time at which it began. What does not
--- fit into a deviation changes nothing of that for a clock below the limit: the reading is as said, or, as said and as read, it is turned away.
+-- The reading of a message is the own clock and the time at which the message was due to begin, less the time at which it began, and 0 where that
+-- would be below 0. What does not fit into a deviation changes nothing of that for a clock below the limit: the reading is as said, or, as said and as read, it is turned away.
 abbrev pub Reads-as-said : Type 0
 Reads-as-said =
     (own due began : ℕ) → own < clock-limit →
     (own + due - began < clock-limit → moved own (deviation-of due began) ≡ own + due - began)
     × (clock-limit ≤ own + due - began → clock-limit ≤ moved own (deviation-of due began))
 
+-- What the setting is handed: 16 deviations, each, where there is one, a number of 64 bits with a sign.
+abbrev pub Is-signed : Option ℤ → Type 0
+Is-signed None = Unit {0}
+Is-signed (Some deviation) = (smallest-signed ≤ℤ deviation) × (deviation ≤ℤ largest-signed)
+
+pub record Handed (heard : List (Option ℤ)) : Type 0 where
+  pub sixteen : length heard ≡ 16
+  pub signed : (q : ℕ) → q < 16 → Is-signed (getD heard q None)
+
 -- What a round asks can be met for 5 * 10^11 rounds, whatever the faulty nodes make each node read: for any lies that come less than 4 * 10^11
 -- ahead there are rounds in which each good node heard them. More of both does not go with clocks below 10^12.
 abbrev pub Lie-fits : Option ℤ → Type 0
 Lie-fits None = Unit {0}
-Lie-fits (Some deviation) = deviation <ℤ pos 400000000000
+Lie-fits (Some deviation) = (smallest-signed ≤ℤ deviation) × (deviation <ℤ pos 400000000000)
 
 pub record Possible (c : Cluster) (good : ℕ → Bool) (lies : ℕ → ℕ → ℕ → Option ℤ) (k : ℕ) : Type 0 where
   pub heard : ℕ → ℕ → List (Option ℤ)
   pub moments : ℕ → ℕ → Moment
   pub together : Apart c good (bound-of c) (moments 0)
   pub rounds : Rounds c good heard moments k
+  pub handed : (j p : ℕ) → Handed (heard j p)
   pub lied : (j p q : ℕ) → q < c .nodes → good q ≡ false → getD (heard j p) q None ≡ lies j p q
 
 abbrev pub Can-be-run : Type 0
@@ -96,6 +106,7 @@ pub record Chosen
   pub heard : ℕ → List (Option ℤ)
   pub after : ℕ → Moment
   pub round : Round c good heard before after
+  pub handed : (p : ℕ) → Good-node c good p → Handed (heard p)
   pub lied : (p q : ℕ) → q < c .nodes → good q ≡ false → getD (heard p) q None ≡ lies p q
   pub erred :
       (p q : ℕ) → Good-node c good p → Good-node c good q → (p ≡ q → ⊥) →

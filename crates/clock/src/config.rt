@@ -5,6 +5,7 @@ ghost use Rattle.midpoint.specs.Refusals.{By-rows};
 ghost use Rattle.clock.specs.Config.{code-of, Told-apart, Cluster-of, unfit, error-of, bound-of, width-of};
 use crate::limits::Cluster;
 use midpoint::Code;
+use midpoint::MAX_NODES;
 use std::fmt;
 
 /// Why there is no cluster with these numbers: the first that applies, in this order.
@@ -57,7 +58,7 @@ impl Cluster {
         ensures listed { λ r. ⌜ By-rows (unfit nodes faults drift jitter) code-of (Cluster-of nodes faults drift jitter) r ⌝ }
         ensures told_apart { λ r. ⌜ refused r (Told-apart faults) ⌝ }
     {
-        if nodes < 4 || nodes > 16 {
+        if nodes < 4 || nodes > MAX_NODES as u64 {
             return Err(Unfit::Nodes);
         }
         if faults > 3 {

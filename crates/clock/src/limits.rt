@@ -2,7 +2,7 @@
 //! functions that make them, since an invariant cannot import a specification that names its type.
 ghost use mathlib.Core.Path.{_≡_};
 ghost use Prim.Native.Nat.{_*_, _≤_, _<_};
-ghost use Rattle.midpoint.specs.Setting.{clock-limit};
+ghost use Rattle.midpoint.specs.Setting.{clock-limit, most-readings};
 
 /// How many nodes there are and how many may be faulty, by how much a clock runs off from one setting
 /// to the next, and by how much a reading is wrong.
@@ -13,7 +13,7 @@ pub struct Cluster {
     pub(crate) drift: u64,
     pub(crate) jitter: u64,
     ghost enough: { 4 ≤ nodes },
-    ghost most: { nodes ≤ 16 },
+    ghost most: { nodes ≤ most-readings },
     ghost few: { faults ≤ 3 },
     ghost tolerated: { 3 * faults < nodes },
     ghost steady: { drift ≤ 1000 },
