@@ -1,5 +1,7 @@
 //! `bench FILE`: plays a script of a cluster, and prints the good clocks of each round. A script that is
 //! wrong anywhere prints nothing but the reason, on standard error, and the program ends with status 1.
+
+#![tactic(auto)]
 mod entry;
 mod reason;
 mod script;

@@ -1,5 +1,5 @@
 -- Rounds of a cluster of which some nodes are faulty, as the good clocks go through them. Assumes nothing: these are definitions.
-use Rattle.std.specs.Prelude.{◌≡◌, ℕ, suc, ◌+◌, ◌<◌, ◌≤◌, Bool, true, not, List, ℤ, pos, ◌+ℤ◌, ◌-ℤ◌, ◌≤ℤ◌, Option, ◌≢◌}
+use Rattle.std.specs.Prelude.{◌≡◌, ℕ, suc, ◌<◌, ◌≤◌, Bool, true, not, List, ℤ, pos, ◌+ℤ◌, ◌-ℤ◌, ◌≤ℤ◌, Option, ◌≢◌}
 use Rattle.std.specs.List.{range_with_len}
 use Rattle.midpoint.specs.Order.{count}
 use Rattle.midpoint.specs.Setting.{clock_limit}

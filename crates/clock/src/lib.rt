@@ -7,6 +7,8 @@
 //! - `setting`: a clock goes on, and is set.
 //! - `theorems`: what is proved of good clocks, each statement on a function that demands it.
 
+#![tactic(auto)]
+
 pub mod ahead;
 pub mod config;
 pub mod limits;

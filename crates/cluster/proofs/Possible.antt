@@ -1,6 +1,6 @@
 -- A cluster and a round that keep the limits that the theorems ask for. Assumes nothing.
 use borrow.Author.Differences.{ints}
-use Rattle.std.proofs.Common.{◌≡◌, ℕ, zero, suc, ◌+◌, ◌<◌, ◌≤◌, false, eqb, ◌∷◌, replicate, ℤ, pos, refl, arith, lit≤}
+use Rattle.std.proofs.Common.{◌≡◌, ℕ, zero, suc, ◌+◌, ◌<◌, false, eqb, ◌∷◌, replicate, ℤ, pos, refl, arith, lit≤}
 use Rattle.std.proofs.lemmas.Bool.{ne_eqb}
 use Rattle.midpoint.specs.Order.{count}
 use Rattle.midpoint.specs.Setting.{clock_limit}

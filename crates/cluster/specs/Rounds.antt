@@ -1,6 +1,6 @@
 -- One round of a cluster of which a script plays the faulty nodes: what each good node hears of the others, and what its clock shows as the next
 -- round ends. What it reads and what it sets its clock to are those of the clock. Assumes nothing: these are definitions.
-use Rattle.std.specs.Prelude.{◌≡◌, ℕ, ◌+◌, min, Bool, true, false, cond, ◌&&◌, List, [], map, set, ℤ, pos, Some, None, Option, nat_lt, slice_index_or, slice_set}
+use Rattle.std.specs.Prelude.{◌≡◌, ℕ, ◌+◌, min, Bool, true, false, cond, ◌&&◌, List, [], map, ℤ, pos, Some, None, Option, nat_lt, slice_index_or, slice_set}
 use Rattle.std.specs.List.{range_with_len}
 use Rattle.std.specs.Option.{unwrap_or}
 use Rattle.midpoint.specs.Midpoint.{midpoint}

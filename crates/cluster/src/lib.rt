@@ -7,6 +7,8 @@
 //! - `clocks`: the good clocks, and one round after another.
 //! - `theorems`: what is proved of a round, whatever a script says.
 
+#![tactic(auto)]
+
 pub mod clocks;
 pub mod config;
 pub mod limits;

@@ -6,6 +6,8 @@
 //! - `refusal`: the refusals of this crate, with their numbers and places.
 //! - `theorems`: what is proved of the midpoint, each statement on a function that demands it.
 
+#![tactic(auto)]
+
 pub mod order;
 pub mod refusal;
 pub mod setting;

@@ -9,7 +9,7 @@ use Rattle.clock.specs.Setting.{SetBy}
 use Rattle.schedule.specs.Config.{timing_of}
 use Rattle.schedule.specs.Listening.{whole_in}
 use Rattle.schedule.specs.Messages.{instant, Sends, Carried, FromSlot}
-use Rattle.schedule.specs.Slots.{owner_of, slot_of, send_time_of, round_end_of}
+use Rattle.schedule.specs.Slots.{slot_of, send_time_of, round_end_of}
 use Rattle.schedule.specs.declared.limits.Schedule.{Schedule}
 
 -- What happens to good nodes: each clock at moments of a common time that no node knows.

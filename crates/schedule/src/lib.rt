@@ -7,6 +7,8 @@
 //! - `theorems`: what is proved of messages between good nodes, each statement on a function that demands
 //!   it.
 
+#![tactic(auto)]
+
 pub mod config;
 pub mod limits;
 pub mod listening;

@@ -6,7 +6,7 @@ use Rattle.midpoint.proofs.order.sort.Goals as goal
 pub returns : goal.returns
 returns c =
     let was = c.args.readings.now in
-    let is = c.sort-unstable.new.self in
+    let is = c.sort_unstable.new.self in
     sorted_is was is
-    (λ i j le h. IsNonDecreasingBy-from_sort (λ x. x) is c.sort-unstable.ensures.sorted i j 0 le h)
-    (λ x. count_shuffled (eqb x) was is c.sort-unstable.ensures.permutation)
+    (λ i j le h. IsNonDecreasingBy-from_sort (λ x. x) is c.sort_unstable.ensures.sorted i j 0 le h)
+    (λ x. count_shuffled (eqb x) was is c.sort_unstable.ensures.permutation)

@@ -10,5 +10,5 @@ showable : (faults : ℕ) (readings : List ℕ) (answer : Set) → SetSays fault
 showable faults readings (To time) says = stays_shown faults time readings says
 showable faults readings (Refused refusal) says = tt
 
-pub next-round-requires : goal.next-round-requires
-next-round-requires c = search (rules, showable)
+pub next_round-requires : goal.next_round-requires
+next_round-requires c = search (rules, showable)

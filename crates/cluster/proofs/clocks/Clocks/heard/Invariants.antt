@@ -6,4 +6,4 @@ use Rattle.cluster.proofs.clocks.Clocks.heard.Given as goal
 -- the nodes before q are heard
 abbrev pub invariant-loop-q : goal.invariant-loop-q
 invariant-loop-q l =
-    (length l.all ≡ 16) × (take l.q l.all ≡ map (told l.self l.round l.p l.own_val) (range_with_len 0 l.q))
+    (length l.all ≡ 16) × (take l.q l.all ≡ map (told l.self l.round l.p l.own) (range_with_len 0 l.q))
