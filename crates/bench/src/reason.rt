@@ -1,5 +1,6 @@
 //! Why a script is turned away.
 use cluster::Unfit;
+use std::alloc::AllocError;
 use std::fmt;
 
 /// Why a line cannot be read.
@@ -76,8 +77,8 @@ pub(crate) enum Fault<'a> {
     Memory,
 }
 
-impl From<fmt::Error> for Fault<'_> {
-    fn from(_e: fmt::Error) -> Self {
+impl From<AllocError> for Fault<'_> {
+    fn from(_e: AllocError) -> Self {
         Fault::Memory
     }
 }

@@ -4,7 +4,7 @@ use Rattle.std.proofs.lemmas.List.FromFn.{length-map-range_with_len, length-rang
 use Rattle.std.proofs.ByRecursion.{All-from_get_or}
 use Rattle.std.proofs.lemmas.Bool.{cases_Bool}
 use Rattle.std.proofs.lemmas.Bool.Decides.{nat_tests}
-use Rattle.std.specs.List.{range_with_len, AllByRecursion as All}
+use Rattle.std.specs.List.{range_with_len, AllByRecursion}
 use Rattle.midpoint.specs.Order.{sorted, count}
 use Rattle.midpoint.specs.Theorems.{outside}
 use Rattle.midpoint.proofs.Sorting.{sorted-count, sorted-length, sorted_rises}
@@ -15,7 +15,7 @@ unfolding count
 count_map test f [] = refl
 count_map test f (x ∷ xs) = ap (λ n. cond (test (f x)) 1 0 + n) (count_map test f xs)
 
-pub all_counting : (P : ℕ → Type 0) (n : ℕ) → ((q : ℕ) → q < n → P q) → All P (range_with_len 0 n)
+pub all_counting : (P : ℕ → Type 0) (n : ℕ) → ((q : ℕ) → q < n → P q) → AllByRecursion P (range_with_len 0 n)
 all_counting P n each =
     All-from_get_or P (range_with_len 0 n) 0
     (λ i h. let l : i < n = omega (arith, length-range_with_len 0 n) in subst P (sym (get_or-range_with_len 0 n i 0 l ∙ zero-add i)) (each i l))

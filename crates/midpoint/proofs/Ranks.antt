@@ -3,7 +3,7 @@ use Rattle.std.proofs.Common.{◌≡◌, ℕ, zero, suc, ◌+◌, ◌-◌, ◌<�
 use Rattle.std.proofs.ByRecursion.{All-from_get_or}
 use Rattle.std.proofs.lemmas.Bool.Decides.{nat_tests}
 use Rattle.std.proofs.lemmas.Bool.{cases_lt}
-use Rattle.std.specs.List.{prefix_len, AllByRecursion as All}
+use Rattle.std.specs.List.{prefix_len, AllByRecursion}
 use Rattle.midpoint.specs.Order.{sorted, count, SameNumbers}
 use Rattle.midpoint.specs.Setting.{clock_limit, shown}
 use Rattle.midpoint.specs.Theorems.{Sorts, Trims, OrderFree, Holds, StaysShown, outside}
@@ -61,7 +61,7 @@ trims f xs =
     ]
 
 -- where a test passes all of a list that another passes, it passes no fewer
-pub count_over : (a b : ℕ → Bool) (xs : List ℕ) → All (λ x. a x ≡ true → b x ≡ true) xs → count a xs ≤ count b xs
+pub count_over : (a b : ℕ → Bool) (xs : List ℕ) → AllByRecursion (λ x. a x ≡ true → b x ≡ true) xs → count a xs ≤ count b xs
 unfolding count
 count_over a b [] imp = omega arith
 count_over a b (x ∷ xs) (here, rest) = let ih = count_over a b xs rest in grind (arith, nat_tests)

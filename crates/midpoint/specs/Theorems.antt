@@ -1,6 +1,6 @@
 -- What is proved of the midpoint. Each statement is demanded by the contract of a function of src/theorems.rt. Assumes nothing.
 use Rattle.std.specs.Prelude.{◌≡◌, ℕ, ◌+◌, ◌*◌, ◌<◌, ◌≤◌, not, ◌&&◌, List, [], ◌∷◌, map, length, nat_le, nat_lt}
-use Rattle.std.specs.List.{AllByRecursion as All}
+use Rattle.std.specs.List.{AllByRecursion}
 use Rattle.midpoint.specs.Order.{sorted, count, Rising, SameNumbers}
 use Rattle.midpoint.specs.Midpoint.{lower, upper, midpoint}
 use Rattle.midpoint.specs.Setting.{SetSays, clock_limit}
@@ -64,4 +64,4 @@ cases =
     ∷ []
 
 abbrev pub Worked : Type 0
-Worked = All (λ c. midpoint c.faults c.readings ≡ c.middle) cases
+Worked = AllByRecursion (λ c. midpoint c.faults c.readings ≡ c.middle) cases

@@ -2,7 +2,7 @@
 use Rattle.std.proofs.Common.{◌≡◌, ℕ, ◌≤◌, true, false, List, [], ◌∷◌, ◌++◌, refl, ap, ◌∙◌, inl, inr, arith}
 use Rattle.std.proofs.lemmas.Bool.{cases_Bool, ne_eqb}
 use Rattle.std.proofs.lemmas.Bool.Decides.{nat_tests}
-use Rattle.std.specs.List.{AllByRecursion as All}
+use Rattle.std.specs.List.{AllByRecursion}
 use Rattle.schedule.specs.Config.{timing_of}
 use Rattle.schedule.specs.Listening.{timely, came_whole, whole_ones, heard_as, only}
 use Rattle.schedule.specs.Messages.{at}
@@ -18,7 +18,7 @@ module _ {M : Type 0} (s : Schedule) (slot : ℕ) where
   not_whole : (x : Arrival M) → (x.wire ≡ owner_of (timing_of s) slot → ⊥) → came_whole s slot x ≡ false
   not_whole x other = let e = ne_eqb x.wire (owner_of (timing_of s) slot) other in rw e
 
-  none_whole : (last : ℕ) (xs : List (Arrival M)) → All (λ x. x.wire ≡ owner_of (timing_of s) slot → ⊥) xs → whole_ones s slot last xs ≡ []
+  none_whole : (last : ℕ) (xs : List (Arrival M)) → AllByRecursion (λ x. x.wire ≡ owner_of (timing_of s) slot → ⊥) xs → whole_ones s slot last xs ≡ []
   none_whole last [] others = refl
   none_whole last (x ∷ xs) (other, others) =
       elim (cases_Bool (timely last x)) [
@@ -27,8 +27,8 @@ module _ {M : Type 0} (s : Schedule) (slot : ℕ) where
       ]
 
   one_whole : (last : ℕ) (earlier : List (Arrival M)) (a : Arrival M) (later : List (Arrival M)) → came_whole s slot a ≡ true → a.began ≤ a.ended →
-      last ≤ a.ended → All (λ x. x.wire ≡ owner_of (timing_of s) slot → ⊥) earlier → All (λ x. x.ended ≤ a.ended) earlier →
-      All (λ x. x.wire ≡ owner_of (timing_of s) slot → ⊥) later → whole_ones s slot last (earlier ++ a ∷ later) ≡ a ∷ []
+      last ≤ a.ended → AllByRecursion (λ x. x.wire ≡ owner_of (timing_of s) slot → ⊥) earlier → AllByRecursion (λ x. x.ended ≤ a.ended) earlier →
+      AllByRecursion (λ x. x.wire ≡ owner_of (timing_of s) slot → ⊥) later → whole_ones s slot last (earlier ++ a ∷ later) ≡ a ∷ []
   one_whole last [] a later is forward in_time others order behind =
       let t : timely last a ≡ true = grind (arith, nat_tests) in
       rw (t, is) (ap (λ xs. a ∷ xs) (none_whole a.ended later behind))

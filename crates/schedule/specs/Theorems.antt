@@ -1,6 +1,6 @@
 -- What is proved of slots and of listening in them. Each statement is demanded by the contract of a function of src/theorems.rt. Assumes nothing.
 use Rattle.std.specs.Prelude.{◌≡◌, ℕ, ◌+◌, ◌-◌, ◌<◌, ◌≤◌, Bool, true, List, ◌∷◌, ◌++◌, ℤ, pos, ◌+ℤ◌, Some, Option, ◌≢◌}
-use Rattle.std.specs.List.{AllByRecursion as All}
+use Rattle.std.specs.List.{AllByRecursion}
 use Rattle.clock.specs.Config.{error_of, bound_of, width_of}
 use Rattle.clock.specs.Deviation.{deviation_of}
 use Rattle.clock.specs.Rounds.{Moment, ahead, lead, Within, GoodNode, FewBad, Apart, Round}
@@ -42,9 +42,9 @@ HearsWhole =
 -- whatever order, as long as nothing ended behind it that the listener was told of before.
 pub record OnItsWire {M : Type 0} (s : Schedule) (slot time : ℕ) (earlier : List (Arrival M)) (a : Arrival M) (later : List (Arrival M)) : Type 0 where
   pub own_wire : a.wire ≡ owner_of (timing_of s) slot
-  pub other_wires_earlier : All (λ x. x.wire ≢ owner_of (timing_of s) slot) earlier
-  pub other_wires_later : All (λ x. x.wire ≢ owner_of (timing_of s) slot) later
-  pub in_order : All (λ x. x.ended ≤ a.ended) earlier
+  pub other_wires_earlier : AllByRecursion (λ x. x.wire ≢ owner_of (timing_of s) slot) earlier
+  pub other_wires_later : AllByRecursion (λ x. x.wire ≢ owner_of (timing_of s) slot) later
+  pub in_order : AllByRecursion (λ x. x.ended ≤ a.ended) earlier
   pub in_time : time ≤ a.ended
   pub forward : a.began ≤ a.ended
 
