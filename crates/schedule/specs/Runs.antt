@@ -1,5 +1,5 @@
 -- A run of good nodes over any number of rounds, whatever the faulty ones do: clocks that are set, messages that pass, and what was heard of them.
--- Assumes nothing: these are definitions, and a statement that is demanded by the contract of a function of src/theorems.rt.
+-- Assumes nothing: these are definitions, and a statement. It is not proved yet: no contract demands it.
 use Rattle.std.specs.Prelude.{◌≡◌, ℕ, suc, ◌+◌, ◌*◌, ◌<◌, ◌≤◌, Bool, true, List, ℤ, pos, ◌+ℤ◌, ◌≤ℤ◌, Some, None, Option, ◌≢◌, slice_index_or}
 use Rattle.midpoint.specs.Setting.{clock_limit}
 use Rattle.clock.specs.Config.{bound_of, width_of}
