@@ -5,8 +5,8 @@ usage: python3 tools/respell.py            at the top of the repository, once, a
        python3 tools/respell.py --dry      prints the new names, and changes nothing
 
 A dash stays where it joins the names of two functions, in the lemmas of KEPT; a name that Rattle makes of the code's names (a goal, an
-invariant) and a name of the library stay as they are. It goes by text: a name is a whole word of an .antt file, of a clause or comment of an
-.rt file, or a word between backticks of a page. Names that fall together are printed, and nothing is changed then."""
+invariant) and a name of the library stay as they are. It goes by text: a name is a whole word of an .antt or .rt file,
+wherever it stands there, or a word between backticks of a page. Names that fall together are printed, and nothing is changed then."""
 
 import collections
 import os
