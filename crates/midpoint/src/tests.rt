@@ -114,21 +114,21 @@ fn first_number_wins(rt: HostRuntime) {
 #[test]
 fn numbers_and_places(rt: HostRuntime) {
     assert_eq!(rt;
-        Refusal::ReadingCount { count: 17 }.code(),
+        Code::from(Refusal::ReadingCount { count: 17 }),
         Code {
             number: 1,
             place: 17,
         }
     );
     assert_eq!(rt;
-        Refusal::TooManyFaults { faults: 5 }.code(),
+        Code::from(Refusal::TooManyFaults { faults: 5 }),
         Code {
             number: 2,
             place: 5,
         }
     );
     assert_eq!(rt;
-        Refusal::ReadingTooLarge { index: 4 }.code(),
+        Code::from(Refusal::ReadingTooLarge { index: 4 }),
         Code {
             number: 3,
             place: 4,
