@@ -1,5 +1,4 @@
 pub mod Sizes
 pub mod Sorting
-pub mod Fronts
 pub mod Ranks
 pub mod Shifts
