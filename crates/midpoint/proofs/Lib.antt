@@ -1,4 +1,3 @@
-pub mod Sizes
 pub mod Sorting
 pub mod Ranks
 pub mod Shifts
