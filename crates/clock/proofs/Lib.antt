@@ -1,5 +1,5 @@
-pub mod Choosable
 pub mod Arrays
+pub mod Choosable
 pub mod Heard
 pub mod Messages
 pub mod Nodes
