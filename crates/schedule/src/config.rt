@@ -23,12 +23,12 @@ pub enum Unfit {
     LengthTooLong,
 }
 
-impl Unfit {
-    /// Its number and place in the fixed list of refusals.
-    pub fn code(self) -> Code
-        ensures { result ≡ code_of self }
-    {
-        let place = match self {
+/// Its number and place in the fixed list of refusals.
+impl From<Unfit> for Code {
+    ghost from_gives = { λ unfit code. code ≡ code_of unfit };
+
+    fn from(unfit: Unfit) -> Code {
+        let place = match unfit {
             Unfit::PauseTooShort => 0,
             Unfit::LengthTooShort | Unfit::LengthTooLong => 1,
         };

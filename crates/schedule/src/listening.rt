@@ -38,12 +38,12 @@ pub enum Refusal {
     Earlier,
 }
 
-impl Refusal {
-    /// Its number and place in the fixed list of refusals.
-    pub fn code(self) -> Code
-        ensures { result ≡ code_of self }
-    {
-        match self {
+/// Its number and place in the fixed list of refusals.
+impl From<Refusal> for Code {
+    ghost from_gives = { λ refusal code. code ≡ code_of refusal };
+
+    fn from(refusal: Refusal) -> Code {
+        match refusal {
             Refusal::EndsBeforeItBegan | Refusal::Earlier => Code {
                 number: 12,
                 place: 0,

@@ -97,11 +97,11 @@ fn codes(rt: HostRuntime) {
         (Unfit::LengthTooShort, 1),
         (Unfit::LengthTooLong, 1),
     ] {
-        assert_eq!(rt; why.code(), Code { number: 6, place });
+        assert_eq!(rt; Code::from(why), Code { number: 6, place });
     }
     for why in [Refusal::EndsBeforeItBegan, Refusal::Earlier] {
         assert_eq!(rt;
-            why.code(),
+            Code::from(why),
             Code {
                 number: 12,
                 place: 0,
