@@ -149,8 +149,8 @@ impl<M: Copy> Listener<M> {
     {
         let start = self.schedule.start(self.slot);
         arrival.wire == self.schedule.owner(self.slot)
-            && start <= arrival.began as u128
-            && arrival.ended as u128 <= start + self.schedule.length as u128
+            && start <= u128::from(arrival.began)
+            && u128::from(arrival.ended) <= start + u128::from(self.schedule.length)
     }
 
     // How far the clock of the slot's node is ahead, if its message began at this time. It was due a pause
@@ -159,7 +159,7 @@ impl<M: Copy> Listener<M> {
         requires { slot_start (timing_of self.schedule) self.slot ≤ began }
         ensures { result ≡ deviation_of (send_time_of (timing_of self.schedule) self.slot) began }
     {
-        let into = began as u128 - self.schedule.start(self.slot);
+        let into = u128::from(began) - self.schedule.start(self.slot);
         deviation(self.schedule.pause, into as u64)
     }
 }
