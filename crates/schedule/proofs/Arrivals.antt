@@ -1,7 +1,6 @@
 -- A listener that is told of arrivals, one after another: what it has and what is still to come make what is heard. Assumes nothing.
 use borrow.Author.Differences.{ints}
-use Rattle.std.proofs.Common.{◌≡◌, ℕ, ◌+◌, ◌-◌, ◌<◌, ◌≤◌, cond, List, [], ◌∷◌, length, get_or, drop, pos, ◌-ℤ◌, Some, None, Option, sym, refl, ap, ◌∙◌, inl, inr, arith}
-use Rattle.std.proofs.lemmas.List.{drop_all, drop_more}
+use Rattle.std.proofs.Common.{◌≡◌, ℕ, ◌+◌, ◌-◌, ◌≤◌, cond, List, [], ◌∷◌, ◌++◌, pos, ◌-ℤ◌, Some, None, Option, sym, refl, ap, ◌∙◌, inl, inr, arith}
 use Rattle.std.proofs.lemmas.Bool.{cases_Bool}
 use Rattle.clock.specs.Deviation.{deviation_of, held}
 use Rattle.schedule.specs.Slots.{Timing}
@@ -89,19 +88,17 @@ module _ {M : Type 0} where
   to_come_all s slot answer before after all (one_more l next n a rest told tells) come =
       to_come_all s slot answer next n rest tells (to_come_more s slot answer l next a rest told come)
 
-  -- the same over the places of a list
-  pub to_come_next : (s : Schedule) (slot : ℕ) (answer : Option (Received M)) (before after : Listener M) (a : Arrival M) (all : List (Arrival M)) (i : ℕ) →
-      i < length all → a ≡ get_or all i a → ToldBy before a after → ToCome s slot (drop i all) answer before →
-      ToCome s slot (drop (i + 1) all) answer after
-  to_come_next s slot answer before after a all i h is told come =
-      let e : drop i all ≡ a ∷ drop (i + 1) all = drop_more all i a h ∙ ap (λ x. x ∷ drop (i + 1) all) (sym is) in
-      to_come_more s slot answer before after a (drop (i + 1) all) told (rw e at come)
-
-  pub to_come_last : (s : Schedule) (slot : ℕ) (answer : Option (Received M)) (l : Listener M) (all : List (Arrival M)) (i : ℕ) → length all ≤ i →
-      ToCome s slot (drop i all) answer l → answer_of l.whole ≡ answer
-  to_come_last s slot answer l all i h come = let e = drop_all i all h in to_come_none s slot answer l (rw e at come)
+  pub hears_all : (s : Schedule) (slot time : ℕ) (arrivals : List (Arrival M)) (opened l : Listener M) → Opened s slot time opened → Tells opened arrivals l →
+      answer_of l.whole ≡ heard_in s slot time arrivals
+  hears_all s slot time arrivals opened l is_open tells =
+      to_come_all s slot (heard_in s slot time arrivals) opened l arrivals tells (to_come_first s slot time arrivals opened is_open)
 
   pub hears_the_only_one : (l : Listener M) → HearsTheOnlyOne l
-  hears_the_only_one l opened time arrivals is_open tells =
-      to_come_all l.schedule l.slot (heard_in l.schedule l.slot time arrivals) opened l arrivals tells
-      (to_come_first l.schedule l.slot time arrivals opened is_open)
+  hears_the_only_one l opened time arrivals = hears_all l.schedule l.slot time arrivals opened l
+
+  -- one arrival more
+  pub tells_push : (before last after : Listener M) (arrivals : List (Arrival M)) (a : Arrival M) → Tells before arrivals last → ToldBy last a after →
+      Tells before (arrivals ++ a ∷ []) after
+  tells_push before last after arrivals a (no_more l) told = one_more l after after a [] told (no_more after)
+  tells_push before last after arrivals a (one_more l next n x rest first tells) told =
+      one_more l next after x (rest ++ a ∷ []) first (tells_push next n after rest a tells told)

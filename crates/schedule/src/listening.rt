@@ -175,10 +175,11 @@ impl Schedule {
     ) -> Option<Received<M>>
         ensures { result ≡ heard_in self.now slot time arrivals.now }
     {
-        let mut listener = Listener::new(*self, slot, time);
-        for arrival in arrivals {
-            listener = listener.tell(*arrival).listener;
-        }
-        listener.heard()
+        let told = arrivals
+            .iter()
+            .fold(Listener::new(*self, slot, time), |listener, arrival| {
+                listener.tell(*arrival).listener
+            });
+        told.heard()
     }
 }
