@@ -150,6 +150,14 @@ rises f n step k (suc j) le h =
       | inr same ↦ let e : k ≡ suc j = omega arith in rw e (omega arith)
     ]
 
+-- the slots of a round lie in it
+pub in_round : (s : Schedule) (k p : ℕ) → p < s.cluster.nodes →
+    slot_start (timing_of s) (slot_of (timing_of s) k p) + s.length ≤ round_end_of (timing_of s) k
+in_round s k p h =
+    let n = s.cluster.nodes in
+    let l : slot_of (timing_of s) k p + 1 ≤ (k + 1) * n = omega (arith, add-mul k 1 n) in
+    omega (arith, mul-le-mul_right s.length l, slot_long (timing_of s) (slot_of (timing_of s) k p))
+
 module _ (s : Schedule) (good : ℕ → Bool) (rounds : ℕ) (sends ends : ℕ → ℕ → Instant) (course : Course s good rounds sends ends) where
   abbrev slot : ℕ → ℕ → ℕ
   slot k p = slot_of (timing_of s) k p
@@ -158,16 +166,7 @@ module _ (s : Schedule) (good : ℕ → Bool) (rounds : ℕ) (sends ends : ℕ �
   over_in : (k p q : ℕ) → k < rounds → GoodNode s.cluster good p → GoodNode s.cluster good q →
       (sends k p).common + s.wire + s.message ≤ (ends k q).common
   over_in k p q h gp gq =
-      let within : slot k p + 1 ≤ (k + 1) * s.cluster.nodes = omega (arith, gp.0, add-mul k 1 s.cluster.nodes) in
-      omega (
-        arith,
-        course.sent k p (omega arith) gp,
-        course.over k q h gq,
-        course.ends_together k p q h gp gq,
-        s.behind,
-        slot_long (timing_of s) (slot k p),
-        mul-le-mul_right s.length within,
-      )
+      omega (arith, course.sent k p (omega arith) gp, course.over k q h gq, course.ends_together k p q h gp gq, s.behind, in_round s k p gp.0)
 
   sends_rise : (k j q : ℕ) → k ≤ j → j ≤ rounds → GoodNode s.cluster good q → (sends k q).common ≤ (sends j q).common
   sends_rise k j q le h gq =
