@@ -1,9 +1,7 @@
 -- Messages that pass from node to node: they are whole in their slot, find clocks that are set, and do not overlap. Assumes nothing.
 use borrow.Author.Differences.{ints}
-use Rattle.std.proofs.Common.{◌≡◌, ℕ, zero, suc, ◌+◌, ◌-◌, ◌*◌, ◌<◌, ◌≤◌, Bool, true, eqb, List, get_or, ℤ, pos, ◌+ℤ◌, ◌-ℤ◌, ◌≤ℤ◌, Some, None, Option, sym, refl, inl, inr, mul-le-mul_right, mod-lt, add-mul, div-add-mod', div-mul-le_self, arith}
-use lib.Arith.{digits_div, digits_mod}
+use Rattle.std.proofs.Common.{◌≡◌, ℕ, zero, suc, ◌+◌, ◌*◌, ◌<◌, ◌≤◌, Bool, true, eqb, List, get_or, ℤ, pos, ◌+ℤ◌, ◌-ℤ◌, ◌≤ℤ◌, Some, None, Option, sym, refl, inl, inr, mul-le-mul_right, add-mul, div-mul-le_self, arith}
 use Rattle.std.proofs.lemmas.Bool.{cases_Bool, cases_lt, eq-eqb, ne_eqb, le-leb}
-use Rattle.std.proofs.lemmas.Bool.Decides.{nat_tests}
 use Rattle.midpoint.specs.Setting.{clock_limit}
 use Rattle.clock.specs.Config.{bound_of, width_of}
 use Rattle.clock.specs.Deviation.{deviation_of, moved}
@@ -14,7 +12,7 @@ use Rattle.schedule.specs.Config.{timing_of}
 use Rattle.schedule.specs.Listening.{whole_in}
 use Rattle.schedule.specs.Messages.{Instant, instant, AheadBy, Course, FromSlot}
 use Rattle.schedule.specs.Slots.{Timing, owner_of, round_of, slot_of, slot_start, slot_end_of, round_end_of}
-use Rattle.schedule.specs.Theorems.{SlotsFollow, HearsWhole, HearsGoodNodes, ReadsRight, ReadsNoFarther, MakesARound, SetsBefore, NothingOverlaps, Heard, NeverOver, SetInTime}
+use Rattle.schedule.specs.Theorems.{HearsWhole, HearsGoodNodes, ReadsRight, MakesARound, SetsBefore, NothingOverlaps, SetInTime}
 use Rattle.schedule.specs.declared.limits.Schedule.{Schedule}
 
 -- a slot ends a length behind its start
@@ -69,9 +67,6 @@ reads_right s slot sent began here there sends left on_time (up, down) (over, un
     let e = read_exactly here.clock.shown (slot_start (timing_of s) slot) s.pause began.clock.shown here.clock.below
     (omega (arith, s.behind, s.most)) low high in
     (omega (arith, ints), omega (arith, ints))
-
-pub reads_no_farther : ReadsNoFarther
-reads_no_farther s slot wire began ended own whole = grind (arith, nat_tests, ints)
 
 -- what was heard in a slot is not read past the pause
 read_from_slot : (t : Timing) (slot own : ℕ) (heard : Option ℤ) → FromSlot t slot heard → read_of own heard ≤ own + t.pause
@@ -128,19 +123,9 @@ set_in_time s good heard before after p q slot at setting few course apart gp gq
     let far = not_far_ahead s good heard before after p q few course apart gp gq in
     omega (arith, ints)
 
-pub heard_with_leads_lem : Heard
-heard_with_leads_lem s good leads p q slot at delay apart gp gq carried sends =
-    let near = apart p q gp gq in
-    let far = apart q p gq gp in
-    (omega (arith, s.before), omega (arith, s.behind, slot_long (timing_of s) slot))
-
 -- a later slot starts when a slot has ended, or later
 starts_later : (t : Timing) (slot later : ℕ) → slot < later → slot_end_of t slot ≤ slot_start t later
 starts_later t slot later h = mul-le-mul_right t.length (omega arith)
-
-pub never_over : NeverOver
-never_over s good leads p q slot later at then apart gp gq order sends next =
-    omega (arith, apart q p gq gp, s.behind, slot_long (timing_of s) slot, starts_later (timing_of s) slot later order)
 
 rises : (f : ℕ → ℕ) (n : ℕ) → ((i : ℕ) → i < n → f i ≤ f (suc i)) → (k j : ℕ) → k ≤ j → j ≤ n → f k ≤ f j
 rises f n step k zero le h = let e : k ≡ 0 = omega arith in rw e (omega arith)
@@ -195,14 +180,3 @@ module _ (s : Schedule) (good : ℕ → Bool) (rounds : ℕ) (sends ends : ℕ �
 
 pub nothing_overlaps_lem : NothingOverlaps
 nothing_overlaps_lem s good rounds sends ends k j p q course = overlaps_not s good rounds sends ends course k j p q
-
-pub slots_follow_lem : SlotsFollow
-slots_follow_lem s = record {
-  one_of_each = λ round node h. (digits_div round h, digits_mod round h);
-  each_is_one = λ slot. (div-add-mod' slot s.cluster.nodes, mod-lt slot (omega (arith, s.cluster.enough)));
-  next_starts = λ slot. refl;
-  last_ends = λ round.
-      let e : slot_of (timing_of s) round (s.cluster.nodes - 1) + 1 ≡ (round + 1) * s.cluster.nodes =
-      omega (arith, add-mul round 1 s.cluster.nodes, s.cluster.enough) in
-      rw e;
-}
