@@ -1,7 +1,8 @@
 -- Messages that pass from node to node: they are whole in their slot, find clocks that are set, and do not overlap. Assumes nothing.
 use borrow.Author.Differences.{ints}
-use Rattle.std.proofs.Common.{◌≡◌, ℕ, zero, suc, ◌+◌, ◌*◌, ◌<◌, ◌≤◌, Bool, true, eqb, List, get_or, ℤ, pos, ◌+ℤ◌, ◌-ℤ◌, ◌≤ℤ◌, Some, None, Option, sym, refl, inl, inr, mul-le-mul_right, add-mul, div-mul-le_self, arith}
-use Rattle.std.proofs.lemmas.Bool.{cases_Bool, cases_lt, eq-eqb, ne_eqb, le-leb}
+use Rattle.std.proofs.Common.{◌≡◌, ℕ, zero, suc, ◌+◌, ◌*◌, ◌<◌, ◌≤◌, Bool, eqb, List, get_or, ℤ, pos, ◌+ℤ◌, ◌-ℤ◌, ◌≤ℤ◌, Some, None, Option, sym, inl, inr, mul-le-mul_right, add-mul, div-mul-le_self, arith}
+use Rattle.std.proofs.lemmas.Bool.{cases_Bool, cases_lt, ne_eqb}
+use Rattle.std.proofs.lemmas.Bool.Decides.{nat_tests}
 use Rattle.midpoint.specs.Setting.{clock_limit}
 use Rattle.clock.specs.Config.{bound_of, width_of}
 use Rattle.clock.specs.Deviation.{deviation_of, moved}
@@ -9,7 +10,6 @@ use Rattle.clock.specs.Rounds.{Moment, lead, GoodNode, FewBad, Apart, Round}
 use Rattle.clock.specs.Setting.{read_of}
 use Rattle.clock.proofs.Rounds.{stays_between}
 use Rattle.schedule.specs.Config.{timing_of}
-use Rattle.schedule.specs.Listening.{whole_in}
 use Rattle.schedule.specs.Messages.{Instant, instant, AheadBy, Course, FromSlot}
 use Rattle.schedule.specs.Slots.{Timing, owner_of, round_of, slot_of, slot_start, slot_end_of, round_end_of}
 use Rattle.schedule.specs.Theorems.{HearsWhole, HearsGoodNodes, ReadsRight, MakesARound, SetsBefore, NothingOverlaps, SetInTime}
@@ -19,20 +19,11 @@ use Rattle.schedule.specs.declared.limits.Schedule.{Schedule}
 slot_long : (t : Timing) (slot : ℕ) → slot_end_of t slot ≡ slot_start t slot + t.length
 slot_long t slot = omega (arith, add-mul slot 1 t.length)
 
--- what is in its slot by both ends
-pub whole : (t : Timing) (slot began ended : ℕ) → slot_start t slot ≤ began → ended ≤ slot_end_of t slot →
-    whole_in t slot (owner_of t slot) began ended ≡ true
-whole t slot began ended low high =
-    let own = eq-eqb (owner_of t slot) (owner_of t slot) refl in
-    let l = le-leb (slot_start t slot) began low in
-    let h = le-leb ended (slot_end_of t slot) high in
-    rw (own, l, h)
-
 pub hears_whole : HearsWhole
 hears_whole s slot sent began ended sends way early late =
-    whole (timing_of s) slot began.shown ended.shown
-    (omega (arith, s.before))
-    (omega (arith, s.behind, slot_long (timing_of s) slot))
+    let low : slot_start (timing_of s) slot ≤ began.shown = omega (arith, s.before) in
+    let high : ended.shown ≤ slot_end_of (timing_of s) slot = omega (arith, s.behind, slot_long (timing_of s) slot) in
+    grind (arith, nat_tests)
 
 -- clocks that are compared by what they are ahead of common time
 ahead_by : (a b : Moment) (d : ℕ) → lead a ≤ℤ (lead b +ℤ pos d) → AheadBy d (instant a) (instant b)
