@@ -1,27 +1,68 @@
 //! The good clocks of a cluster, and what a round makes of them.
 ghost use Rattle.std.specs.Prelude.{◌≡◌, ◌*◌, ◌<◌, map, pos, ◌-ℤ◌};
-ghost use Rattle.cluster.specs.Rounds.{seen, run_on, told, heard_by, settled, ended, outcome, outcomes_of, next_player, Plays};
+ghost use Rattle.cluster.specs.Rounds.{code_of, seen, run_on, told, heard_by, settled, ended, outcome, outcomes_of, next_player, Plays};
+ghost use Rattle.cluster.specs.declared.clocks.Refusal.TheVariants.{Time, Readings};
 
 use crate::limits::Timing;
 use crate::round::{Heard, Round};
 use clock::{Clock, Cluster, deviation, reading};
 use midpoint::{Code, MAX_NODES, Set};
 
-/// A node: a bad one, of which the script says what it does, or a good one, with its clock as the last
-/// round left it and what it shows as this one ends.
+/// A good node: its clock as the last round left it, and what it shows as this one ends.
+#[derive(Clone, Copy)]
+pub struct GoodNode {
+    pub clock: Clock,
+    pub time: u64,
+}
+
+/// A node: a bad one, of which the script says what it does, or a good one.
 #[derive(Clone, Copy)]
 pub enum Player {
     Bad,
-    Good { clock: Clock, time: u64 },
+    Good(GoodNode),
 }
 
-/// What a round makes of a node: nothing of a bad one, and of a good one its clock, set by what it read, or
-/// kept since its readings or its own time were turned away, and what it shows as the next round ends.
+/// What a round makes of a node: nothing of a bad one, and of a good one the node in the next round, its
+/// clock set by what it read, or kept since its readings or its own time were turned away.
 #[derive(Clone, Copy)]
 pub enum Outcome {
     Idle,
-    SetTo { clock: Clock, time: u64 },
-    Kept { clock: Clock, time: u64, code: Code },
+    SetTo(GoodNode),
+    Kept(GoodNode, Refusal),
+}
+
+/// Why a good node's clock was not set: the time that it shows, or what it reads, was turned away.
+#[derive(Clone, Copy, PartialEq, Eq, Debug)]
+pub enum Refusal {
+    Time(clock::Refusal),
+    Readings(midpoint::Refusal),
+}
+
+impl From<clock::Refusal> for Refusal {
+    ghost from_gives = { λ refusal result. result ≡ Time refusal };
+
+    fn from(refusal: clock::Refusal) -> Refusal {
+        Refusal::Time(refusal)
+    }
+}
+
+impl From<midpoint::Refusal> for Refusal {
+    ghost from_gives = { λ refusal result. result ≡ Readings refusal };
+
+    fn from(refusal: midpoint::Refusal) -> Refusal {
+        Refusal::Readings(refusal)
+    }
+}
+
+impl From<Refusal> for Code {
+    ghost from_gives = { λ refusal code. code ≡ code_of refusal };
+
+    fn from(refusal: Refusal) -> Code {
+        match refusal {
+            Refusal::Time(why) => why.code(),
+            Refusal::Readings(why) => why.code(),
+        }
+    }
 }
 
 impl Outcome {
@@ -31,9 +72,7 @@ impl Outcome {
     {
         match self {
             Outcome::Idle => Player::Bad,
-            Outcome::SetTo { clock, time } | Outcome::Kept { clock, time, .. } => {
-                Player::Good { clock, time }
-            }
+            Outcome::SetTo(node) | Outcome::Kept(node, _) => Player::Good(node),
         }
     }
 }
@@ -112,23 +151,25 @@ impl Clocks {
         let player = self.players[p];
         match player {
             Player::Bad => Outcome::Idle,
-            Player::Good { clock, time } => self.ended(round, p, clock, time),
+            Player::Good(node) => self.ended(round, p, node),
         }
     }
 
-    // What it makes of the clock of the good node p, which shows a time as the round ends.
-    fn ended(&self, round: &Round, p: usize, clock: Clock, time: u64) -> Outcome
+    // What it makes of the good node p.
+    fn ended(&self, round: &Round, p: usize, node: GoodNode) -> Outcome
         requires { p < 16 }
-        ensures { seen result ≡ ended self.now round.now p clock time }
+        ensures { seen result ≡ ended self.now round.now p node }
     {
-        let step = clock.go_on(p, time);
+        let step = node.clock.go_on(p, node.time);
         match step.answer {
             Ok(()) => self.settled(round, p, step.clock),
-            Err(refusal) => Outcome::Kept {
-                clock: step.clock,
-                time: self.run_on(round, p, time),
-                code: refusal.code(),
-            },
+            Err(refusal) => {
+                let node = GoodNode {
+                    clock: step.clock,
+                    time: self.run_on(round, p, node.time),
+                };
+                Outcome::Kept(node, Refusal::from(refusal))
+            }
         }
     }
 
@@ -139,17 +180,13 @@ impl Clocks {
     {
         let heard = self.heard(round, p, clock.shown());
         let step = clock.set(&self.cluster, p, &heard);
-        let time = self.run_on(round, p, step.clock.shown());
+        let node = GoodNode {
+            clock: step.clock,
+            time: self.run_on(round, p, step.clock.shown()),
+        };
         match step.answer {
-            Set::To(_) => Outcome::SetTo {
-                clock: step.clock,
-                time,
-            },
-            Set::Refused(refusal) => Outcome::Kept {
-                clock: step.clock,
-                time,
-                code: refusal.code(),
-            },
+            Set::To(_) => Outcome::SetTo(node),
+            Set::Refused(refusal) => Outcome::Kept(node, Refusal::from(refusal)),
         }
     }
 
@@ -172,7 +209,7 @@ impl Clocks {
     {
         let player = self.players[q];
         match player {
-            Player::Good { time, .. } => Some(deviation(reading(time, round.jitter(p, q)), own)),
+            Player::Good(node) => Some(deviation(reading(node.time, round.jitter(p, q)), own)),
             Player::Bad => match round.heard(p, q) {
                 Heard::Once(ahead) => Some(deviation(self.common.saturating_add(ahead), own)),
                 Heard::Nothing | Heard::Several => None,
