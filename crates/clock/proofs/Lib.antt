@@ -1,3 +1,4 @@
+pub mod Arrays
 pub mod Choosable
 pub mod Filled
 pub mod Heard

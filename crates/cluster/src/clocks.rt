@@ -65,12 +65,12 @@ impl From<Refusal> for Code {
     }
 }
 
-impl Outcome {
-    // The node in the next round.
-    fn player(self) -> Player
-        ensures { result ≡ next_player self }
-    {
-        match self {
+// The node in the next round.
+impl From<Outcome> for Player {
+    ghost from_gives = { λ outcome player. player ≡ next_player outcome };
+
+    fn from(outcome: Outcome) -> Player {
+        match outcome {
             Outcome::Idle => Player::Bad,
             Outcome::SetTo(node) | Outcome::Kept(node, _) => Player::Good(node),
         }
@@ -120,7 +120,7 @@ impl Clocks {
             cluster: self.cluster,
             span: self.span,
             common: self.common.saturating_add(self.span),
-            players: players_after(&outcomes),
+            players: outcomes.map(Player::from),
         };
         Played { clocks, outcomes }
     }
@@ -136,11 +136,7 @@ impl Clocks {
     fn outcomes(&self, round: &Round) -> [Outcome; MAX_NODES]
         ensures { map seen result ≡ outcomes_of self.now round.now }
     {
-        let mut all = [Outcome::Idle; MAX_NODES];
-        for p in 0..MAX_NODES {
-            all[p] = self.outcome(round, p);
-        }
-        all
+        std::array::from_fn(|p| self.outcome(round, p))
     }
 
     // What it makes of node p.
@@ -195,11 +191,7 @@ impl Clocks {
         requires { p < 16 }
         ensures { result ≡ heard_by self.now round.now p own }
     {
-        let mut all = [None; MAX_NODES];
-        for q in 0..MAX_NODES {
-            all[q] = self.told(round, p, own, q);
-        }
-        all
+        std::array::from_fn(|q| self.told(round, p, own, q))
     }
 
     // The deviation of node q, or nothing, as node p heard it.
@@ -224,16 +216,4 @@ impl Clocks {
     {
         reading(time.saturating_add(self.span), round.drift(p))
     }
-}
-
-// The nodes in the next round.
-fn players_after(outcomes: &[Outcome; MAX_NODES]) -> [Player; MAX_NODES]
-    ensures { result ≡ map next_player outcomes.now }
-{
-    let mut players = [Player::Bad; MAX_NODES];
-    for p in 0..MAX_NODES {
-        let outcome = outcomes[p];
-        players[p] = outcome.player();
-    }
-    players
 }
