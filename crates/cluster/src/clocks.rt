@@ -129,91 +129,112 @@ impl Clocks {
     pub fn ahead(&self, time: u64) -> i128
         ensures { result ≡ pos time -ℤ pos self.now.common }
     {
-        time as i128 - self.common as i128
+        i128::from(time) - i128::from(self.common)
     }
 
     // What the round makes of each node.
     fn outcomes(&self, round: &Round) -> [Outcome; MAX_NODES]
         ensures { map seen result ≡ outcomes_of self.now round.now }
     {
-        std::array::from_fn(|p| self.outcome(round, p))
+        std::array::from_fn(
+            |node|
+                requires { node < 16 }
+            {
+                Ending {
+                    clocks: self,
+                    round,
+                    node,
+                }
+                .outcome()
+            },
+        )
     }
+}
 
-    // What it makes of node p.
-    fn outcome(&self, round: &Round, p: usize) -> Outcome
-        requires { p < 16 }
-        ensures { seen result ≡ outcome self.now round.now p }
+/// One node at the end of a round that the script tells of.
+#[derive(Clone, Copy)]
+struct Ending<'a> {
+    clocks: &'a Clocks,
+    round: &'a Round,
+    node: usize,
+    ghost below: { node < 16 },
+}
+
+impl Ending<'_> {
+    // What the round makes of the node.
+    fn outcome(&self) -> Outcome
+        ensures { seen result ≡ outcome self.now.clocks.now self.now.round.now self.now.node }
     {
-        let player = self.players[p];
-        match player {
+        let clocks = self.clocks;
+        match clocks.players[self.node] {
             Player::Bad => Outcome::Idle,
-            Player::Good(node) => self.ended(round, p, node),
+            Player::Good(good) => self.ended(good),
         }
     }
 
-    // What it makes of the good node p.
-    fn ended(&self, round: &Round, p: usize, node: GoodNode) -> Outcome
-        requires { p < 16 }
-        ensures { seen result ≡ ended self.now round.now p node }
+    // What it makes of a good one.
+    fn ended(&self, good: GoodNode) -> Outcome
+        ensures { seen result ≡ ended self.now.clocks.now self.now.round.now self.now.node good }
     {
-        let step = node.clock.go_on(p, node.time);
+        let step = good.clock.go_on(self.node, good.time);
         match step.answer {
-            Ok(()) => self.settled(round, p, step.clock),
+            Ok(()) => self.settled(step.clock),
             Err(refusal) => {
-                let node = GoodNode {
+                let good = GoodNode {
                     clock: step.clock,
-                    time: self.run_on(round, p, node.time),
+                    time: self.run_on(good.time),
                 };
-                Outcome::Kept(node, Refusal::from(refusal))
+                Outcome::Kept(good, Refusal::from(refusal))
             }
         }
     }
 
     // What it makes of a clock that went on to the round's end.
-    fn settled(&self, round: &Round, p: usize, clock: Clock) -> Outcome
-        requires { p < 16 }
-        ensures { seen result ≡ settled self.now round.now p clock.shown clock.round }
+    fn settled(&self, clock: Clock) -> Outcome
+        ensures { seen result ≡ settled self.now.clocks.now self.now.round.now self.now.node clock.shown clock.round }
     {
-        let heard = self.heard(round, p, clock.shown());
-        let step = clock.set(&self.cluster, p, &heard);
-        let node = GoodNode {
+        let heard = self.heard(clock.shown());
+        let step = clock.set(&self.clocks.cluster, self.node, &heard);
+        let good = GoodNode {
             clock: step.clock,
-            time: self.run_on(round, p, step.clock.shown()),
+            time: self.run_on(step.clock.shown()),
         };
         match step.answer {
-            Set::To(_) => Outcome::SetTo(node),
-            Set::Refused(refusal) => Outcome::Kept(node, Refusal::from(refusal)),
+            Set::To(_) => Outcome::SetTo(good),
+            Set::Refused(refusal) => Outcome::Kept(good, Refusal::from(refusal)),
         }
     }
 
-    // The deviation of each node, or nothing, as node p heard them.
-    fn heard(&self, round: &Round, p: usize, own: u64) -> [Option<i64>; MAX_NODES]
-        requires { p < 16 }
-        ensures { result ≡ heard_by self.now round.now p own }
+    // The deviation of each node, or nothing, as this one heard them.
+    fn heard(&self, own: u64) -> [Option<i64>; MAX_NODES]
+        ensures { result ≡ heard_by self.now.clocks.now self.now.round.now self.now.node own }
     {
-        std::array::from_fn(|q| self.told(round, p, own, q))
+        std::array::from_fn(|other| self.told(own, other))
     }
 
-    // The deviation of node q, or nothing, as node p heard it.
-    fn told(&self, round: &Round, p: usize, own: u64, q: usize) -> Option<i64>
-        requires { (p < 16) × (q < 16) }
-        ensures { result ≡ told self.now round.now p own q }
+    // The deviation of one node, or nothing, as this one heard it.
+    fn told(&self, own: u64, other: usize) -> Option<i64>
+        requires { other < 16 }
+        ensures { result ≡ told self.now.clocks.now self.now.round.now self.now.node own other }
     {
-        let player = self.players[q];
-        match player {
-            Player::Good(node) => Some(deviation(reading(node.time, round.jitter(p, q)), own)),
-            Player::Bad => match round.heard(p, q) {
-                Heard::Once(ahead) => Some(deviation(self.common.saturating_add(ahead), own)),
+        let clocks = self.clocks;
+        match clocks.players[other] {
+            Player::Good(good) => {
+                let jitter = self.round.jitter[self.node][other].unwrap_or(0);
+                Some(deviation(reading(good.time, jitter), own))
+            }
+            Player::Bad => match self.round.heard[self.node][other] {
+                Heard::Once(ahead) => { Some(deviation(clocks.common.saturating_add(ahead), own)) }
                 Heard::Nothing | Heard::Several => None,
             },
         }
     }
 
     // What a clock that is set to a time shows as the next round ends.
-    fn run_on(&self, round: &Round, p: usize, time: u64) -> u64
-        requires { p < 16 }
-        ensures { result ≡ run_on self.now round.now p time }
+    fn run_on(&self, time: u64) -> u64
+        ensures { result ≡ run_on self.now.clocks.now self.now.round.now self.now.node time }
     {
-        reading(time.saturating_add(self.span), round.drift(p))
+        let drift = self.round.drift[self.node].unwrap_or(0);
+        reading(time.saturating_add(self.clocks.span), drift)
     }
 }

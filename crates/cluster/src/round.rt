@@ -1,6 +1,6 @@
 //! What a script says of one round.
-ghost use Rattle.std.specs.Prelude.{◌≡◌, ◌<◌, replicate, Some, None};
-ghost use Rattle.cluster.specs.Rounds.{heard_of, jitter_of, drift_of, one_more, with_entry, with_place};
+ghost use Rattle.std.specs.Prelude.{◌≡◌, replicate, Some, None};
+ghost use Rattle.cluster.specs.Rounds.{heard_of, one_more, with_entry, with_place};
 
 use midpoint::MAX_NODES;
 
@@ -70,29 +70,5 @@ impl Round {
         if p < MAX_NODES {
             self.drift[p] = Some(by);
         }
-    }
-
-    // What node p gets of the bad node q.
-    pub(crate) fn heard(&self, p: usize, q: usize) -> Heard
-        requires { (p < 16) × (q < 16) }
-        ensures { result ≡ heard_of self.now p q }
-    {
-        self.heard[p][q]
-    }
-
-    // By how much node p reads the good node q wrong.
-    pub(crate) fn jitter(&self, p: usize, q: usize) -> i64
-        requires { (p < 16) × (q < 16) }
-        ensures { result ≡ jitter_of self.now p q }
-    {
-        self.jitter[p][q].unwrap_or(0)
-    }
-
-    // By how much the clock of node p runs off after its setting.
-    pub(crate) fn drift(&self, p: usize) -> i64
-        requires { p < 16 }
-        ensures { result ≡ drift_of self.now p }
-    {
-        self.drift[p].unwrap_or(0)
     }
 }

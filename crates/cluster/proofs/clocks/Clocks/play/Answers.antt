@@ -1,6 +1,6 @@
-use Rattle.std.proofs.Common.{rules, arith}
+use Rattle.std.proofs.Common.{rules}
 use Rattle.clock.proofs.Arrays.{map_gives}
-use Rattle.cluster.specs.Rounds.{next_player, outcome, outcomes_of}
+use Rattle.cluster.specs.Rounds.{next_player}
 use Rattle.cluster.proofs.clocks.Clocks.play.Goals as goal
 
 pub returns : goal.returns

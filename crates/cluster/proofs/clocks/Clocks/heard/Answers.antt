@@ -1,9 +1,0 @@
-use Rattle.std.proofs.Common.{rules}
-use Rattle.clock.proofs.Arrays.{from_fn_gives}
-use Rattle.cluster.specs.Rounds.{told, heard_by}
-use Rattle.cluster.proofs.clocks.Clocks.heard.Goals as goal
-
-pub returns : goal.returns
-unfolding heard_by
-returns c =
-    from_fn_gives _ (told c.args.self.now c.args.round.now c.args.p c.args.own) _ (λ q x f' k. search rules) c.from_fn.result 16 c.from_fn.ensures.items
