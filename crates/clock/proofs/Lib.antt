@@ -1,6 +1,5 @@
 pub mod Arrays
 pub mod Choosable
-pub mod Filled
 pub mod Heard
 pub mod Messages
 pub mod Nodes

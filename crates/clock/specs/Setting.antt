@@ -1,12 +1,11 @@
 -- A clock that goes on, and one that is set at the end of a round. Assumes nothing: these are definitions.
-use Rattle.std.specs.Prelude.{◌≡◌, ℕ, ◌+◌, ◌<◌, min, cond, not, List, [], ◌∷◌, map, ℤ, Some, None, Option, ◌==◌, nat_lt, slice_index_or}
+use Rattle.std.specs.Prelude.{◌≡◌, ℕ, ◌+◌, ◌<◌, min, cond, not, List, [], ◌∷◌, map, ℤ, Some, None, Ok, Err, Option, Result, ◌==◌, nat_lt, slice_index_or}
 use Rattle.std.specs.List.{range_with_len}
 use Rattle.midpoint.specs.Midpoint.{midpoint}
 use Rattle.midpoint.specs.Refusals.{Row, row, first_applying}
 use Rattle.midpoint.specs.Setting.{shown, unusable, clock_limit}
 use Rattle.midpoint.specs.declared.refusal.Code.{Code}
-use Rattle.midpoint.specs.declared.setting.Set.{Set}
-use Rattle.midpoint.specs.declared.setting.Set.TheVariants.{To, Refused}
+use Rattle.midpoint.specs.declared.refusal.Refusal as of_readings
 use Rattle.clock.specs.Deviation.{moved, largest}
 use Rattle.clock.specs.declared.limits.Clock.{Clock}
 use Rattle.clock.specs.declared.limits.Cluster.{Cluster}
@@ -44,14 +43,14 @@ unfoldable pub readings : ℕ → ℕ → ℕ → List (Option ℤ) → List ℕ
 readings nodes node own heard = map (reads node own heard) (range_with_len 0 nodes)
 
 -- a setting that leaves a time that a clock can show
-abbrev pub Showable : Set → Type 0
-Showable (To time) = time < clock_limit
-Showable (Refused refusal) = Unit {0}
+abbrev pub Showable : Result ℕ of_readings.Refusal → Type 0
+Showable (Ok time) = time < clock_limit
+Showable (Err refusal) = Unit {0}
 
 -- what a clock shows behind a setting, by its answer: the midpoint, or what it showed before
-abbrev pub shown_after : ℕ → Set → ℕ
-shown_after own (To time) = time
-shown_after own (Refused refusal) = own
+abbrev pub shown_after : ℕ → Result ℕ of_readings.Refusal → ℕ
+shown_after own (Ok time) = time
+shown_after own (Err refusal) = own
 
 -- what the setting makes of readings: their midpoint, or the own clock where they are turned away
 abbrev pub settled : ℕ → ℕ → List ℕ → ℕ

@@ -8,14 +8,8 @@ ghost use Rattle.clock.specs.Deviation.{deviation_of, moved};
 pub fn deviation(due: u64, began: u64) -> i64
     ensures { result ≡ deviation_of due began }
 {
-    let ahead = due as i128 - began as i128;
-    if ahead < i64::MIN as i128 {
-        i64::MIN
-    } else if ahead > i64::MAX as i128 {
-        i64::MAX
-    } else {
-        ahead as i64
-    }
+    let ahead = i128::from(due) - i128::from(began);
+    ahead.clamp(i128::from(i64::MIN), i128::from(i64::MAX)) as i64
 }
 
 /// What the own clock makes of a deviation: the other node's clock as it appears here. It stops at 0 and

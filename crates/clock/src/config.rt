@@ -22,12 +22,12 @@ pub enum Unfit {
     Jitter,
 }
 
-impl Unfit {
-    /// Its number and place in the fixed list of refusals.
-    pub fn code(self) -> Code
-        ensures { result ≡ code_of self }
-    {
-        let (number, place) = match self {
+/// Its number and place in the fixed list of refusals.
+impl From<Unfit> for Code {
+    ghost from_gives = { λ unfit code. code ≡ code_of unfit };
+
+    fn from(unfit: Unfit) -> Code {
+        let (number, place) = match unfit {
             Unfit::Nodes => (4, 0),
             Unfit::Faults | Unfit::NodesForFaults => (4, 1),
             Unfit::Drift => (5, 0),

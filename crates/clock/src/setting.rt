@@ -1,12 +1,13 @@
 //! A node's clock goes on, and is set at the end of a round.
-ghost use Rattle.std.specs.Prelude.{◌≡◌, ◌<◌, ◌≤◌, take};
+ghost use Rattle.std.specs.Prelude.{◌≡◌, ◌<◌, ◌≤◌};
 ghost use Rattle.midpoint.specs.Refusals.{ByRows};
-ghost use Rattle.midpoint.specs.Setting.{SetSays};
-ghost use Rattle.clock.specs.Setting.{untimely, code_of, GoneOn, SetBy, reads, readings, shown_after, next_round_of, Showable};
+ghost use Rattle.midpoint.specs.Setting.{SetSays, most_readings};
+ghost use Rattle.clock.specs.Setting.{untimely, code_of, GoneOn, SetBy, read_of, readings, shown_after, next_round_of, Showable};
 
 use crate::ahead::reading;
 use crate::limits::{Clock, Cluster};
-use midpoint::{CLOCK_LIMIT, Code, MAX_NODES, Set, set_clock};
+use midpoint::{CLOCK_LIMIT, Code, MAX_NODES, set_clock};
+use std::array;
 
 /// Why a clock does not go on to a time: the first that applies, in this order.
 #[derive(Clone, Copy, PartialEq, Eq, Debug)]
@@ -17,12 +18,12 @@ pub enum Refusal {
     Earlier,
 }
 
-impl Refusal {
-    /// Its number and place in the fixed list of refusals.
-    pub fn code(self) -> Code
-        ensures { result ≡ code_of self }
-    {
-        match self {
+/// Its number and place in the fixed list of refusals.
+impl From<Refusal> for Code {
+    ghost from_gives = { λ refusal code. code ≡ code_of refusal };
+
+    fn from(refusal: Refusal) -> Code {
+        match refusal {
             Refusal::PastLimit { node } => Code {
                 number: 3,
                 place: node as u64,
@@ -87,12 +88,17 @@ impl Clock {
     /// of all nodes of the cluster. Of each node its deviation was heard, or nothing; then, and of itself, the
     /// node reads its own clock, so that there are always as many readings as nodes. Readings that are turned
     /// away leave the clock as it is. The round counts on in both cases, up to 2^64 - 1.
-    pub fn set(self, cluster: &Cluster, node: usize, heard: &[Option<i64>; MAX_NODES]) -> Step<Set>
+    pub fn set(
+        self,
+        cluster: &Cluster,
+        node: usize,
+        heard: &[Option<i64>; MAX_NODES],
+    ) -> Step<Result<u64, midpoint::Refusal>>
         ensures answer { SetSays cluster.now.faults (readings cluster.now.nodes node self.shown heard.now) result.answer }
         ensures clock { SetBy cluster.now node self heard.now result.clock }
     {
         let nodes = cluster.nodes as usize;
-        let all = self.readings(nodes, node, heard);
+        let all = self.readings(node, heard);
         let answer = set_clock(cluster.faults, &all[0..nodes]);
         Step {
             clock: self.next_round(answer),
@@ -101,49 +107,34 @@ impl Clock {
     }
 
     // The clock in the next round, set to the answer, or not.
-    fn next_round(self, answer: Set) -> Clock
+    fn next_round(self, answer: Result<u64, midpoint::Refusal>) -> Clock
         requires { Showable answer }
         ensures shown { result.shown ≡ shown_after self.shown answer }
         ensures round { result.round ≡ next_round_of self.round }
     {
-        let shown = match answer {
-            Set::To(time) => time,
-            Set::Refused(_) => self.shown,
-        };
         Clock {
-            shown,
+            shown: answer.unwrap_or(self.shown),
             round: self.round.saturating_add(1),
         }
     }
 
-    // What the node reads of all nodes.
-    fn readings(
-        self,
-        nodes: usize,
-        node: usize,
-        heard: &[Option<i64>; MAX_NODES],
-    ) -> [u64; MAX_NODES]
-        requires { nodes ≤ 16 }
-        ensures { take nodes result ≡ readings nodes node self.shown heard.now }
+    // What the node reads of each node.
+    fn readings(self, node: usize, heard: &[Option<i64>; MAX_NODES]) -> [u64; MAX_NODES]
+        ensures { result ≡ readings most_readings node self.shown heard.now }
     {
-        let mut all = [0; MAX_NODES];
-        for q in 0..nodes {
-            all[q] = self.reads(node, heard, q);
-        }
-        all
+        array::from_fn(|q| {
+            if q == node {
+                self.shown
+            } else {
+                self.read(heard[q])
+            }
+        })
     }
 
-    // What it reads of node q.
-    fn reads(self, node: usize, heard: &[Option<i64>; MAX_NODES], q: usize) -> u64
-        requires { q < 16 }
-        ensures { result ≡ reads node self.shown heard.now q }
+    // What it reads of another node, of which a deviation was heard, or nothing.
+    fn read(self, heard: Option<i64>) -> u64
+        ensures { result ≡ read_of self.shown heard }
     {
-        if q == node {
-            return self.shown;
-        }
-        match heard[q] {
-            Some(deviation) => reading(self.shown, deviation),
-            None => self.shown,
-        }
+        heard.map_or(self.shown, |deviation| reading(self.shown, deviation))
     }
 }

@@ -3,7 +3,7 @@ use crate::ahead::{deviation, reading};
 use crate::config::Unfit;
 use crate::limits::{Clock, Cluster};
 use crate::setting::Refusal;
-use midpoint::{Code, MAX_NODES, Set};
+use midpoint::{Code, MAX_NODES};
 use std::process::Abort;
 use std::test::Fail;
 
@@ -17,7 +17,7 @@ const SILENT: [Option<i64>; MAX_NODES] = [None; MAX_NODES];
 fn unfit(rt: &impl Abort, numbers: [u64; 4], why: Unfit, number: u64, place: u64) {
     let [nodes, faults, drift, jitter] = numbers;
     assert_eq!(rt; Cluster::new(nodes, faults, drift, jitter).err(), Some(why));
-    assert_eq!(rt; why.code(), Code { number, place });
+    assert_eq!(rt; Code::from(why), Code { number, place });
 }
 
 // There is such a cluster, with these numbers.
@@ -44,7 +44,7 @@ fn shows(rt: &impl Abort, clock: Clock, time: u64, round: u64) {
 // The clock of node 2, of a cluster of four with one fault, is set from this time to that one.
 fn sets(rt: &impl Abort, from: u64, heard: [Option<i64>; 4], to: u64) -> Result<(), Fail> {
     let step = clock_at(from).set(&Cluster::new(4, 1, 0, 0)?, 2, &first_four(heard));
-    assert_eq!(rt; step.answer, Set::To(to));
+    assert_eq!(rt; step.answer, Ok(to));
     shows(rt, step.clock, to, 1);
     Ok(())
 }
@@ -133,7 +133,7 @@ fn local_time_goes_on(rt: HostRuntime) {
     assert_eq!(rt; back.answer, Err(Refusal::Earlier));
     shows(&rt, back.clock, 500, 0);
     assert_eq!(rt;
-        Refusal::Earlier.code(),
+        Code::from(Refusal::Earlier),
         Code {
             number: 12,
             place: 0,
@@ -151,7 +151,7 @@ fn local_time_ends(rt: HostRuntime) {
     assert_eq!(rt; past.answer, Err(refusal));
     shows(&rt, past.clock, 300, 0);
     assert_eq!(rt;
-        refusal.code(),
+        Code::from(refusal),
         Code {
             number: 3,
             place: 5,
@@ -231,7 +231,7 @@ fn past_the_cluster(rt: HostRuntime) -> Result<(), Fail> {
     heard[4] = Some(i64::MAX);
     heard[15] = Some(-1000);
     let step = clock_at(1000).set(&Cluster::new(4, 1, 0, 0)?, 2, &heard);
-    assert_eq!(rt; step.answer, Set::To(1005));
+    assert_eq!(rt; step.answer, Ok(1005));
     Ok(())
 }
 
@@ -246,7 +246,7 @@ fn two_faults(rt: HostRuntime) -> Result<(), Fail> {
     heard[4] = Some(-10);
     heard[5] = Some(6);
     let step = clock_at(1000).set(&Cluster::new(7, 2, 5, 10)?, 2, &heard);
-    assert_eq!(rt; step.answer, Set::To(1006));
+    assert_eq!(rt; step.answer, Ok(1006));
     shows(&rt, step.clock, 1006, 1);
     Ok(())
 }
@@ -256,11 +256,11 @@ fn two_faults(rt: HostRuntime) -> Result<(), Fail> {
 fn readings_turned_away(rt: HostRuntime) -> Result<(), Fail> {
     let heard = first_four([Some(0), Some(0), None, Some(1)]);
     let step = clock_at(LAST).set(&Cluster::new(4, 1, 0, 0)?, 2, &heard);
-    let Set::Refused(refusal) = step.answer else {
+    let Err(refusal) = step.answer else {
         return Err(Fail::new("a reading of 10^12 is turned away"));
     };
     assert_eq!(rt;
-        refusal.code(),
+        Code::from(refusal),
         Code {
             number: 3,
             place: 3,
@@ -302,6 +302,6 @@ fn rounds_end(rt: HostRuntime) -> Result<(), Fail> {
 fn no_node_of_the_cluster(rt: HostRuntime) -> Result<(), Fail> {
     let heard = first_four([Some(2), Some(4), Some(6), Some(8)]);
     let step = clock_at(1000).set(&Cluster::new(4, 1, 0, 0)?, 4, &heard);
-    assert_eq!(rt; step.answer, Set::To(1005));
+    assert_eq!(rt; step.answer, Ok(1005));
     Ok(())
 }

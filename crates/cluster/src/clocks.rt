@@ -6,7 +6,7 @@ ghost use Rattle.cluster.specs.declared.clocks.Refusal.TheVariants.{Time, Readin
 use crate::limits::Timing;
 use crate::round::{Heard, Round};
 use clock::{Clock, Cluster, deviation, reading};
-use midpoint::{Code, MAX_NODES, Set};
+use midpoint::{Code, MAX_NODES};
 
 /// A good node: its clock as the last round left it, and what it shows as this one ends.
 #[derive(Clone, Copy)]
@@ -59,8 +59,8 @@ impl From<Refusal> for Code {
 
     fn from(refusal: Refusal) -> Code {
         match refusal {
-            Refusal::Time(why) => why.code(),
-            Refusal::Readings(why) => why.code(),
+            Refusal::Time(why) => Code::from(why),
+            Refusal::Readings(why) => Code::from(why),
         }
     }
 }
@@ -200,8 +200,8 @@ impl Ending<'_> {
             time: self.run_on(step.clock.shown()),
         };
         match step.answer {
-            Set::To(_) => Outcome::SetTo(good),
-            Set::Refused(refusal) => Outcome::Kept(good, Refusal::from(refusal)),
+            Ok(_) => Outcome::SetTo(good),
+            Err(refusal) => Outcome::Kept(good, Refusal::from(refusal)),
         }
     }
 

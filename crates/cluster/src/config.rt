@@ -19,13 +19,13 @@ pub enum Unfit {
     Length,
 }
 
-impl Unfit {
-    /// Its number and place in the fixed list of refusals.
-    pub fn code(self) -> Code
-        ensures { result ≡ code_of self }
-    {
-        match self {
-            Unfit::Numbers(unfit) => unfit.code(),
+/// Its number and place in the fixed list of refusals.
+impl From<Unfit> for Code {
+    ghost from_gives = { λ unfit code. code ≡ code_of unfit };
+
+    fn from(unfit: Unfit) -> Code {
+        match unfit {
+            Unfit::Numbers(unfit) => Code::from(unfit),
             Unfit::Pause => Code {
                 number: 6,
                 place: 0,
@@ -40,9 +40,7 @@ impl Unfit {
 
 impl fmt::Display for Unfit {
     fn fmt<W: fmt::Write>(&self, f: &mut fmt::Formatter<W>) -> fmt::Result {
-        let code = self.code();
-        let number = code.number;
-        let place = code.place;
+        let Code { number, place } = Code::from(*self);
         write!(f, "refused {number} at {place}: ")?;
         match self {
             Unfit::Numbers(unfit) => write!(f, "{unfit}"),

@@ -1,4 +1,3 @@
 pub mod Sorting
-pub mod Fronts
 pub mod Ranks
 pub mod Shifts

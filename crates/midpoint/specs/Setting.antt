@@ -1,13 +1,11 @@
 -- What the setting of a clock answers. Assumes nothing: these are definitions.
-use Rattle.std.specs.Prelude.{◌≡◌, ℕ, ◌*◌, Bool, not, ◌&&◌, List, [], ◌∷◌, length, Some, None, nat_le, nat_lt}
+use Rattle.std.specs.Prelude.{◌≡◌, ℕ, ◌*◌, Bool, not, ◌&&◌, List, [], ◌∷◌, length, Result, nat_le, nat_lt}
 use Rattle.std.specs.List.{prefix_len}
 use Rattle.midpoint.specs.Midpoint.{midpoint}
-use Rattle.midpoint.specs.Refusals.{Row, row, first_applying}
+use Rattle.midpoint.specs.Refusals.{Row, row, ByRows}
 use Rattle.midpoint.specs.declared.refusal.Code.{Code}
 use Rattle.midpoint.specs.declared.refusal.Refusal.{Refusal}
 use Rattle.midpoint.specs.declared.refusal.Refusal.TheVariants.{ReadingCount, TooManyFaults, ReadingTooLarge}
-use Rattle.midpoint.specs.declared.setting.Set.{Set}
-use Rattle.midpoint.specs.declared.setting.Set.TheVariants.{To, Refused}
 
 -- the most readings, one of each node, and the number that no clock comes to
 abbrev pub most_readings : ℕ
@@ -36,6 +34,5 @@ code_of (TooManyFaults f) = record { number = 2; place = f }
 code_of (ReadingTooLarge i) = record { number = 3; place = i }
 
 -- the midpoint where no row applies, else the first row that does
-abbrev pub SetSays : ℕ → List ℕ → Set → Type 0
-SetSays faults readings (To time) = (first_applying (unusable faults readings) ≡ None) × (time ≡ midpoint faults readings)
-SetSays faults readings (Refused refusal) = first_applying (unusable faults readings) ≡ Some (code_of refusal)
+abbrev pub SetSays : ℕ → List ℕ → Result ℕ Refusal → Type 0
+SetSays faults readings answer = ByRows (unusable faults readings) code_of (λ time. time ≡ midpoint faults readings) answer

@@ -1,11 +1,10 @@
 -- What is proved of the midpoint. Each statement is demanded by the contract of a function of src/theorems.rt. Assumes nothing.
-use Rattle.std.specs.Prelude.{◌≡◌, ℕ, ◌+◌, ◌*◌, ◌<◌, ◌≤◌, not, ◌&&◌, List, [], ◌∷◌, map, length, nat_le, nat_lt}
+use Rattle.std.specs.Prelude.{◌≡◌, ℕ, ◌+◌, ◌*◌, ◌<◌, ◌≤◌, not, ◌&&◌, List, [], ◌∷◌, map, length, Ok, Result, nat_le, nat_lt}
 use Rattle.std.specs.List.{AllByRecursion}
 use Rattle.midpoint.specs.Order.{sorted, count, Rising, SameNumbers}
 use Rattle.midpoint.specs.Midpoint.{lower, upper, midpoint}
 use Rattle.midpoint.specs.Setting.{SetSays, clock_limit}
-use Rattle.midpoint.specs.declared.setting.Set.{Set}
-use Rattle.midpoint.specs.declared.setting.Set.TheVariants.{To}
+use Rattle.midpoint.specs.declared.refusal.Refusal.{Refusal}
 
 -- The sorted list rises, has the same numbers, and is the only list of which both are so.
 abbrev pub Sorts : Type 0
@@ -42,11 +41,11 @@ NeedsMore =
 
 -- What the contract of `set_clock` allows for an input is one answer and no other.
 abbrev pub OneAnswer : Type 0
-OneAnswer = (faults : ℕ) (readings : List ℕ) (r s : Set) → SetSays faults readings r → SetSays faults readings s → r ≡ s
+OneAnswer = (faults : ℕ) (readings : List ℕ) (r s : Result ℕ Refusal) → SetSays faults readings r → SetSays faults readings s → r ≡ s
 
 -- A clock is only set to a time that a clock can show.
 abbrev pub StaysShown : Type 0
-StaysShown = (faults time : ℕ) (readings : List ℕ) → SetSays faults readings (To time) → time < clock_limit
+StaysShown = (faults time : ℕ) (readings : List ℕ) → SetSays faults readings (Ok time) → time < clock_limit
 
 -- Cases worked out by hand.
 pub record Case : Type 0 where

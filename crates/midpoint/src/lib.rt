@@ -17,4 +17,4 @@ pub mod theorems;
 
 pub use order::{MAX_NODES, in_order};
 pub use refusal::{Code, Refusal};
-pub use setting::{CLOCK_LIMIT, Set, set_clock};
+pub use setting::{CLOCK_LIMIT, set_clock};

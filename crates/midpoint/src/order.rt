@@ -1,5 +1,5 @@
 //! Readings in rising order.
-ghost use Rattle.std.specs.Prelude.{◌≡◌, ◌≤◌, take, drop};
+ghost use Rattle.std.specs.Prelude.{◌≡◌, take, drop};
 ghost use Rattle.midpoint.specs.Order.{sorted};
 
 /// The most nodes of a cluster, and so the most readings that a node has.
@@ -7,24 +7,11 @@ pub const MAX_NODES: usize = 16;
 
 /// The first `count` readings in rising order, and those behind them as they were. A count above 16
 /// means all of them.
-pub fn in_order(readings: [u64; MAX_NODES], count: usize) -> [u64; MAX_NODES]
+pub fn in_order(mut readings: [u64; MAX_NODES], count: usize) -> [u64; MAX_NODES]
     ensures risen { take count result ≡ sorted (take count readings) }
     ensures rest { drop count result ≡ drop count readings }
 {
-    if count < MAX_NODES {
-        front_in_order(readings, count)
-    } else {
-        front_in_order(readings, MAX_NODES)
-    }
-}
-
-// The same for a count that is not above 16.
-fn front_in_order(mut readings: [u64; MAX_NODES], count: usize) -> [u64; MAX_NODES]
-    requires { count ≤ 16 }
-    ensures risen { take count result ≡ sorted (take count readings) }
-    ensures rest { drop count result ≡ drop count readings }
-{
-    sort(&mut readings[0..count]);
+    sort(&mut readings[..count.min(MAX_NODES)]);
     readings
 }
 

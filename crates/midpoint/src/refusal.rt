@@ -21,12 +21,12 @@ pub enum Refusal {
     ReadingTooLarge { index: usize },
 }
 
-impl Refusal {
-    /// Its number and place in the fixed list.
-    pub fn code(self) -> Code
-        ensures { result ≡ code_of self }
-    {
-        match self {
+/// Its number and place in the fixed list.
+impl From<Refusal> for Code {
+    ghost from_gives = { λ refusal code. code ≡ code_of refusal };
+
+    fn from(refusal: Refusal) -> Code {
+        match refusal {
             Refusal::ReadingCount { count } => Code {
                 number: 1,
                 place: count as u64,

@@ -1,6 +1,6 @@
 //! The fault-tolerant midpoint of readings, or why there is none.
-ghost use Rattle.std.specs.Prelude.{◌≡◌, ◌*◌, ◌<◌, ◌≤◌, length, take};
-ghost use Rattle.std.specs.List.{prefix_len};
+ghost use Rattle.std.specs.Prelude.{◌≡◌, ◌*◌, ◌<◌, ◌≤◌, length, not, take};
+ghost use Rattle.std.specs.List.{position};
 ghost use Rattle.midpoint.specs.Midpoint.{lower, upper};
 ghost use Rattle.midpoint.specs.Refusals.{ByRows};
 ghost use Rattle.midpoint.specs.Setting.{SetSays, unusable, code_of, shown};
@@ -11,28 +11,15 @@ use crate::refusal::Refusal;
 /// No clock comes to this number, and no reading of one is taken.
 pub const CLOCK_LIMIT: u64 = 1_000_000_000_000;
 
-/// What a clock is set to.
-#[derive(Clone, Copy, PartialEq, Eq, Debug)]
-pub enum Set {
-    /// The midpoint.
-    To(u64),
-    /// Nothing: the readings are turned away, and the clock is to stay as it is.
-    Refused(Refusal),
-}
-
 /// The midpoint of what a node reads of all nodes: half of the sum, rounded down, of the reading that
 /// has as many below it as there may be faults and of the one that has as many above it. Or the first
 /// refusal that applies.
-pub fn set_clock(faults: u64, readings: &[u64]) -> Set
+pub fn set_clock(faults: u64, readings: &[u64]) -> Result<u64, Refusal>
     ensures { SetSays faults readings.now result }
 {
-    match usable(faults, readings) {
-        Err(refusal) => Set::Refused(refusal),
-        Ok(()) => {
-            let (low, high) = without_extremes(faults as usize, readings);
-            Set::To(low.midpoint(high))
-        }
-    }
+    usable(faults, readings)?;
+    let (low, high) = without_extremes(faults as usize, readings);
+    Ok(low.midpoint(high))
 }
 
 // Whether a clock can be set by these readings.
@@ -46,23 +33,17 @@ fn usable(faults: u64, readings: &[u64]) -> Result<(), Refusal>
     if count as u64 <= faults.saturating_mul(3) {
         return Err(Refusal::TooManyFaults { faults });
     }
-    let index = shown_before(readings);
-    if index < count {
-        return Err(Refusal::ReadingTooLarge { index });
+    match first_too_large(readings) {
+        Some(index) => Err(Refusal::ReadingTooLarge { index }),
+        None => Ok(()),
     }
-    Ok(())
 }
 
-// How many readings stand before the first that is too large.
-fn shown_before(readings: &[u64]) -> usize
-    ensures { result ≡ prefix_len shown readings.now }
+// The index of the first reading that is too large.
+fn first_too_large(readings: &[u64]) -> Option<usize>
+    ensures { result ≡ position (λ reading. not (shown reading)) readings.now }
 {
-    for (i, reading) in readings.iter().enumerate() {
-        if *reading >= CLOCK_LIMIT {
-            return i;
-        }
-    }
-    readings.len()
+    readings.iter().position(|reading| *reading >= CLOCK_LIMIT)
 }
 
 // The reading that has `faults` below it, and the one that has `faults` above it.

@@ -1,36 +1,36 @@
 //! Examples of the rule and the edges of every refusal. The expected values are worked out by hand.
 use crate::order::in_order;
 use crate::refusal::{Code, Refusal};
-use crate::setting::{Set, set_clock};
+use crate::setting::set_clock;
 
 const LAST: u64 = 999_999_999_999;
 
-fn refused(refusal: Refusal) -> Set {
-    Set::Refused(refusal)
+fn refused(refusal: Refusal) -> Result<u64, Refusal> {
+    Err(refusal)
 }
 
 #[test]
 fn worked_cases(rt: HostRuntime) {
-    assert_eq!(rt; set_clock(1, &[100, 104, 97, 900]), Set::To(102));
-    assert_eq!(rt; set_clock(1, &[5, 5, 5, 0]), Set::To(5));
-    assert_eq!(rt; set_clock(2, &[10, 12, 14, 16, 18, 0, 99]), Set::To(14));
-    assert_eq!(rt; set_clock(0, &[7]), Set::To(7));
-    assert_eq!(rt; set_clock(1, &[3, 8, 9, 100, 1]), Set::To(6));
+    assert_eq!(rt; set_clock(1, &[100, 104, 97, 900]), Ok(102));
+    assert_eq!(rt; set_clock(1, &[5, 5, 5, 0]), Ok(5));
+    assert_eq!(rt; set_clock(2, &[10, 12, 14, 16, 18, 0, 99]), Ok(14));
+    assert_eq!(rt; set_clock(0, &[7]), Ok(7));
+    assert_eq!(rt; set_clock(1, &[3, 8, 9, 100, 1]), Ok(6));
 }
 
 // A silent fourth node is read as the own clock.
 #[test]
 fn first_round_of_four_nodes(rt: HostRuntime) {
-    assert_eq!(rt; set_clock(1, &[1000, 1004, 1010, 1000]), Set::To(1002));
-    assert_eq!(rt; set_clock(1, &[1000, 1004, 1010, 1004]), Set::To(1004));
-    assert_eq!(rt; set_clock(1, &[1000, 1004, 1010, 1010]), Set::To(1007));
+    assert_eq!(rt; set_clock(1, &[1000, 1004, 1010, 1000]), Ok(1002));
+    assert_eq!(rt; set_clock(1, &[1000, 1004, 1010, 1004]), Ok(1004));
+    assert_eq!(rt; set_clock(1, &[1000, 1004, 1010, 1010]), Ok(1007));
 }
 
 #[test]
 fn halves_are_rounded_down(rt: HostRuntime) {
-    assert_eq!(rt; set_clock(0, &[4, 7]), Set::To(5));
-    assert_eq!(rt; set_clock(0, &[0, 1]), Set::To(0));
-    assert_eq!(rt; set_clock(0, &[LAST, LAST - 1]), Set::To(LAST - 1));
+    assert_eq!(rt; set_clock(0, &[4, 7]), Ok(5));
+    assert_eq!(rt; set_clock(0, &[0, 1]), Ok(0));
+    assert_eq!(rt; set_clock(0, &[LAST, LAST - 1]), Ok(LAST - 1));
 }
 
 #[test]
@@ -39,8 +39,8 @@ fn number_of_readings(rt: HostRuntime) {
         set_clock(0, &[]),
         refused(Refusal::ReadingCount { count: 0 })
     );
-    assert_eq!(rt; set_clock(0, &[9]), Set::To(9));
-    assert_eq!(rt; set_clock(3, &[9; 16]), Set::To(9));
+    assert_eq!(rt; set_clock(0, &[9]), Ok(9));
+    assert_eq!(rt; set_clock(3, &[9; 16]), Ok(9));
     assert_eq!(rt;
         set_clock(0, &[9; 17]),
         refused(Refusal::ReadingCount { count: 17 })
@@ -53,12 +53,12 @@ fn three_times_the_faults(rt: HostRuntime) {
         set_clock(1, &[1, 2, 3]),
         refused(Refusal::TooManyFaults { faults: 1 })
     );
-    assert_eq!(rt; set_clock(1, &[1, 2, 3, 4]), Set::To(2));
+    assert_eq!(rt; set_clock(1, &[1, 2, 3, 4]), Ok(2));
     assert_eq!(rt;
         set_clock(5, &[8; 15]),
         refused(Refusal::TooManyFaults { faults: 5 })
     );
-    assert_eq!(rt; set_clock(5, &[8; 16]), Set::To(8));
+    assert_eq!(rt; set_clock(5, &[8; 16]), Ok(8));
     assert_eq!(rt;
         set_clock(u64::MAX, &[8; 16]),
         refused(Refusal::TooManyFaults { faults: u64::MAX })
@@ -73,7 +73,7 @@ fn three_times_the_faults(rt: HostRuntime) {
 
 #[test]
 fn readings_past_the_limit(rt: HostRuntime) {
-    assert_eq!(rt; set_clock(1, &[LAST, 1, 2, LAST]), Set::To(500_000_000_000));
+    assert_eq!(rt; set_clock(1, &[LAST, 1, 2, LAST]), Ok(500_000_000_000));
     assert_eq!(rt;
         set_clock(1, &[LAST + 1, 1, 2, 3]),
         refused(Refusal::ReadingTooLarge { index: 0 })
@@ -87,7 +87,7 @@ fn readings_past_the_limit(rt: HostRuntime) {
         refused(Refusal::ReadingTooLarge { index: 1 })
     );
     let mut all = [LAST; 16];
-    assert_eq!(rt; set_clock(0, &all), Set::To(LAST));
+    assert_eq!(rt; set_clock(0, &all), Ok(LAST));
     all[15] = LAST + 1;
     assert_eq!(rt;
         set_clock(0, &all),
@@ -114,21 +114,21 @@ fn first_number_wins(rt: HostRuntime) {
 #[test]
 fn numbers_and_places(rt: HostRuntime) {
     assert_eq!(rt;
-        Refusal::ReadingCount { count: 17 }.code(),
+        Code::from(Refusal::ReadingCount { count: 17 }),
         Code {
             number: 1,
             place: 17,
         }
     );
     assert_eq!(rt;
-        Refusal::TooManyFaults { faults: 5 }.code(),
+        Code::from(Refusal::TooManyFaults { faults: 5 }),
         Code {
             number: 2,
             place: 5,
         }
     );
     assert_eq!(rt;
-        Refusal::ReadingTooLarge { index: 4 }.code(),
+        Code::from(Refusal::ReadingTooLarge { index: 4 }),
         Code {
             number: 3,
             place: 4,
