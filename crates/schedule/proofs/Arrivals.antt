@@ -6,13 +6,14 @@ use Rattle.std.proofs.lemmas.Bool.{cases_Bool}
 use Rattle.clock.specs.Deviation.{deviation_of, held}
 use Rattle.schedule.specs.Slots.{Timing}
 use Rattle.schedule.specs.Config.{timing_of}
-use Rattle.schedule.specs.Listening.{timely, came_whole, as_heard, with_one, with_arrival, answer_of, Opened, ToldBy, whole_ones, only, heard_as, heard_in, Tells, no_more, one_more}
+use Rattle.schedule.specs.Heard.{with_one, answer_of}
+use Rattle.schedule.specs.Listening.{timely, came_whole, as_heard, with_arrival, Opened, ToldBy, whole_ones, only, heard_as, heard_in, Tells, no_more, one_more}
 use Rattle.schedule.specs.Theorems.{HearsTheOnlyOne}
 use Rattle.schedule.specs.declared.limits.Schedule.{Schedule}
 use Rattle.schedule.specs.declared.listening.Arrival.{Arrival}
 use Rattle.schedule.specs.declared.listening.Received.{Received}
-use Rattle.schedule.specs.declared.listening.Whole.{Whole}
-use Rattle.schedule.specs.declared.listening.Whole.TheVariants.{Nothing, One, Several}
+use Rattle.schedule.specs.declared.heard.Heard.{Heard}
+use Rattle.schedule.specs.declared.heard.Heard.TheVariants.{Nothing, Once, Several}
 use Rattle.schedule.specs.declared.listening.Listener.{Listener}
 
 -- the deviation of a message, counted from the slot's start
@@ -21,26 +22,26 @@ deviation_behind start pause began h = let e : pos pause -ℤ pos (began - start
 
 module _ {M : Type 0} where
   -- what is heard where so much has come whole, and these are still to come whole
-  abbrev pub joined : Timing → ℕ → Whole M → List (Arrival M) → Option (Received M)
+  abbrev pub joined : Timing → ℕ → Heard (Received M) → List (Arrival M) → Option (Received M)
   joined t slot Nothing xs = heard_as t slot (only xs)
-  joined t slot (One received) [] = Some received
-  joined t slot (One received) (x ∷ xs) = None
+  joined t slot (Once received) [] = Some received
+  joined t slot (Once received) (x ∷ xs) = None
   joined t slot Several xs = None
 
-  joined_none : (t : Timing) (slot : ℕ) (w : Whole M) → joined t slot w [] ≡ answer_of w
+  joined_none : (t : Timing) (slot : ℕ) (w : Heard (Received M)) → joined t slot w [] ≡ answer_of w
   joined_none t slot Nothing = refl
-  joined_none t slot (One received) = refl
+  joined_none t slot (Once received) = refl
   joined_none t slot Several = refl
 
-  joined_one : (t : Timing) (slot : ℕ) (w : Whole M) (a : Arrival M) (xs : List (Arrival M)) →
-      joined t slot w (a ∷ xs) ≡ joined t slot (with_one w (Some (as_heard t slot a))) xs
+  joined_one : (t : Timing) (slot : ℕ) (w : Heard (Received M)) (a : Arrival M) (xs : List (Arrival M)) →
+      joined t slot w (a ∷ xs) ≡ joined t slot (with_one w (as_heard t slot a)) xs
   joined_one t slot Nothing a [] = refl
   joined_one t slot Nothing a (x ∷ xs) = refl
-  joined_one t slot (One received) a xs = refl
+  joined_one t slot (Once received) a xs = refl
   joined_one t slot Several a xs = refl
 
   -- one arrival that was to come has come
-  joined_more : (s : Schedule) (slot last : ℕ) (w : Whole M) (a : Arrival M) (rest : List (Arrival M)) →
+  joined_more : (s : Schedule) (slot last : ℕ) (w : Heard (Received M)) (a : Arrival M) (rest : List (Arrival M)) →
       joined (timing_of s) slot w (whole_ones s slot last (a ∷ rest))
       ≡ joined (timing_of s) slot (cond (timely last a) (with_arrival s slot w a) w) (whole_ones s slot (cond (timely last a) a.ended last) rest)
   joined_more s slot last w a rest =

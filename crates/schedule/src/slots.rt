@@ -36,7 +36,7 @@ impl Schedule {
     pub(crate) fn start(&self, slot: u64) -> u128
         ensures { result ≡ slot_start (timing_of self.now) slot }
     {
-        slot as u128 * self.length as u128
+        u128::from(slot) * u128::from(self.length)
     }
 
     /// What the clock of a slot's node shows when it starts to send in it: the slot's start and the pause.
