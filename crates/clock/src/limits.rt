@@ -5,7 +5,7 @@ ghost use Rattle.midpoint.specs.Setting.{clock_limit, most_readings};
 
 /// How many nodes there are and how many may be faulty, by how much a clock runs off from one setting
 /// to the next, and by how much a reading is wrong.
-#[derive(Clone, Copy)]
+#[derive(Clone, Copy, PartialEq, Eq, Debug)]
 pub struct Cluster {
     pub(crate) nodes: u64,
     pub(crate) faults: u64,
@@ -53,7 +53,7 @@ impl Cluster {
 /// A node's clock: the local time that it last showed, and the round that the node is in. The round is
 /// counted, and never worked out from the time: a clock that was set back shows times once more that the
 /// last round already had.
-#[derive(Clone, Copy)]
+#[derive(Clone, Copy, PartialEq, Eq, Debug)]
 pub struct Clock {
     pub(crate) shown: u64,
     pub(crate) round: u64,

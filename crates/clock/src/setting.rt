@@ -37,7 +37,7 @@ impl From<Refusal> for Code {
 }
 
 /// A clock that went through a call, and the answer of the call.
-#[derive(Clone, Copy)]
+#[derive(Clone, Copy, PartialEq, Eq, Debug)]
 pub struct Step<A> {
     pub clock: Clock,
     pub answer: A,
