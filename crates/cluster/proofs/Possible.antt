@@ -8,8 +8,8 @@ use Rattle.clock.specs.Setting.{reads, read_of}
 use Rattle.clock.specs.declared.limits.Clock.{Clock}
 use Rattle.cluster.specs.Rounds.{heard_of, jitter_of, told_by, heard_by}
 use Rattle.cluster.specs.Theorems.{Shows, LieFits, LimitsCanBeKept}
-use Rattle.cluster.specs.declared.round.Heard.{Heard}
-use Rattle.cluster.specs.declared.round.Heard.TheVariants.{Nothing, Once, Several}
+use Rattle.schedule.specs.declared.heard.Heard.{Heard}
+use Rattle.schedule.specs.declared.heard.Heard.TheVariants.{Nothing, Once, Several}
 use Rattle.cluster.specs.declared.round.Round.{Round}
 use Rattle.cluster.specs.declared.clocks.Clocks.{Clocks}
 use Rattle.cluster.specs.declared.clocks.GoodNode.{GoodNode}
@@ -50,7 +50,7 @@ shown_by (suc (suc zero)) a (h, e) = let at : at_time 1002 ≡ a = cc in rw (←
 shown_by (suc (suc (suc zero))) a (h, e) = let z : ◌≡◌ {A = ℕ} 0 1 = cc in absurd (omega arith)
 shown_by (suc (suc (suc (suc p)))) a (h, e) = absurd (omega arith)
 
-lie_below : (own : ℕ) (jitter : ℤ) (h : Heard) → own < 1003 → LieFits h → read_of own (told_by 0 own jitter Bad h) < clock_limit
+lie_below : (own : ℕ) (jitter : ℤ) (h : Heard ℕ) → own < 1003 → LieFits h → read_of own (told_by 0 own jitter Bad h) < clock_limit
 lie_below own jitter Nothing l f = omega arith
 lie_below own jitter (Once ahead) l f = grind (arith, ints)
 lie_below own jitter Several l f = omega arith

@@ -12,8 +12,8 @@ use Rattle.clock.specs.Deviation.{deviation_of, moved, largest}
 use Rattle.clock.specs.Setting.{untimely, readings, next_round_of}
 use Rattle.clock.specs.Setting as timing
 use Rattle.clock.specs.declared.limits.Clock.{Clock}
-use Rattle.cluster.specs.declared.round.Heard.{Heard}
-use Rattle.cluster.specs.declared.round.Heard.TheVariants.{Nothing, Once, Several}
+use Rattle.schedule.specs.declared.heard.Heard.{Heard}
+use Rattle.schedule.specs.declared.heard.Heard.TheVariants.{Nothing, Once, Several}
 use Rattle.cluster.specs.declared.round.Round.{Round}
 use Rattle.cluster.specs.declared.clocks.GoodNode.{GoodNode}
 use Rattle.cluster.specs.declared.clocks.Refusal.{Refusal}
@@ -34,7 +34,7 @@ is_bad Bad = true
 is_bad (Good node) = false
 
 -- what the script says that node p gets of node q and by how much wrong it reads it, and by how much its clock runs off
-abbrev pub heard_of : Round → ℕ → ℕ → Heard
+abbrev pub heard_of : Round → ℕ → ℕ → Heard ℕ
 heard_of r p q = slice_index_or (slice_index_or r.heard p []) q Nothing
 
 abbrev pub jitter_of : Round → ℕ → ℕ → ℤ
@@ -45,7 +45,7 @@ drift_of r p = unwrap_or (slice_index_or r.drift p None) (pos 0)
 
 -- how far a node's clock is ahead as the own clock has it: a good one's, wrong by the jitter; of a bad one what it says in one message, else
 -- nothing
-abbrev pub told_by : ℕ → ℕ → ℤ → Player → Heard → Option ℤ
+abbrev pub told_by : ℕ → ℕ → ℤ → Player → Heard ℕ → Option ℤ
 told_by common own jitter (Good node) heard = Some (deviation_of (moved node.time jitter) own)
 told_by common own jitter Bad (Once ahead) = Some (deviation_of (min (common + ahead) largest) own)
 told_by common own jitter Bad Nothing = None
@@ -136,12 +136,6 @@ pub record Plays (c : Clocks) (r : Round) (played : Played) : Type 0 where
   pub common : played.clocks.common ≡ min (c.common + c.span) largest
   pub span : played.clocks.span ≡ c.span
   pub cluster : played.clocks.cluster ≡ c.cluster
-
--- one message more of a bad node in its slot
-abbrev pub one_more : Heard → ℕ → Heard
-one_more Nothing ahead = Once ahead
-one_more (Once first) ahead = Several
-one_more Several ahead = Several
 
 -- an entry put into a table at row p and column q, or into a row at p, where that is a node of the largest cluster
 abbrev pub with_entry : {X : Type 0} → List (List X) → ℕ → ℕ → X → List (List X)

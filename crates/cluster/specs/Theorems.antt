@@ -9,8 +9,8 @@ use Rattle.clock.specs.Rounds.{FewBad}
 use Rattle.clock.specs.Setting.{reads}
 use Rattle.clock.specs.Theorems.{rest_of}
 use Rattle.cluster.specs.Rounds.{player, is_bad, heard_of, jitter_of, drift_of, heard_by, all_read, Plays}
-use Rattle.cluster.specs.declared.round.Heard.{Heard}
-use Rattle.cluster.specs.declared.round.Heard.TheVariants.{Nothing, Once, Several}
+use Rattle.schedule.specs.declared.heard.Heard.{Heard}
+use Rattle.schedule.specs.declared.heard.Heard.TheVariants.{Nothing, Once, Several}
 use Rattle.cluster.specs.declared.round.Round.{Round}
 use Rattle.cluster.specs.declared.clocks.Clocks.{Clocks}
 use Rattle.cluster.specs.declared.clocks.Played.{Played}
@@ -68,7 +68,7 @@ NotPulledOut =
     (low ≤ midpoint c.cluster.faults (all_read c r p a.time) + most) × (midpoint c.cluster.faults (all_read c r p a.time) ≤ high + most)
 
 -- a lie that comes to no more than half of the limit
-abbrev pub LieFits : Heard → Type 0
+abbrev pub LieFits : Heard ℕ → Type 0
 LieFits Nothing = Unit {0}
 LieFits (Once ahead) = 2 * ahead ≤ clock_limit
 LieFits Several = Unit {0}

@@ -4,7 +4,7 @@ ghost use Rattle.cluster.specs.Rounds.{code_of, seen, run_on, told, heard_by, se
 ghost use Rattle.cluster.specs.declared.clocks.Refusal.TheVariants.{Time, Readings};
 
 use crate::limits::Timing;
-use crate::round::{Heard, Round};
+use crate::round::Round;
 use clock::{Clock, Cluster, deviation, reading};
 use midpoint::{Code, MAX_NODES};
 
@@ -223,10 +223,10 @@ impl Ending<'_> {
                 let jitter = self.round.jitter[self.node][other].unwrap_or(0);
                 Some(deviation(reading(good.time, jitter), own))
             }
-            Player::Bad => match self.round.heard[self.node][other] {
-                Heard::Once(ahead) => { Some(deviation(clocks.common.saturating_add(ahead), own)) }
-                Heard::Nothing | Heard::Several => None,
-            },
+            Player::Bad => {
+                let heard = self.round.heard[self.node][other].only();
+                heard.map(|ahead| deviation(clocks.common.saturating_add(ahead), own))
+            }
         }
     }
 

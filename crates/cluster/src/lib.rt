@@ -18,4 +18,5 @@ pub mod theorems;
 pub use clocks::{Clocks, GoodNode, Outcome, Played, Player, Refusal};
 pub use config::Unfit;
 pub use limits::Timing;
-pub use round::{Heard, Round};
+pub use round::Round;
+pub use schedule::Heard;
