@@ -34,14 +34,14 @@ time_of (Good node) = node.time
 
 -- what the next round finds of a node that was set, and of one of which nothing was made
 found_set : (out : Outcome) (standing : Standing) (b : GoodNode) → seen out ≡ Seen.set_to standing → next_player out ≡ Good b → b.time ≡ standing.time
-found_set Idle standing b e f = absurd (grind (arith, nat_tests))
+found_set Idle standing b e f = cc
 found_set (SetTo node) standing b e f = cc
-found_set (Kept node refusal) standing b e f = absurd (grind (arith, nat_tests))
+found_set (Kept node refusal) standing b e f = cc
 
 found_idle : (out : Outcome) (b : GoodNode) → seen out ≡ Seen.idle → next_player out ≡ Good b → ⊥
-found_idle Idle b e f = grind (arith, nat_tests)
-found_idle (SetTo node) b e f = grind (arith, nat_tests)
-found_idle (Kept node refusal) b e f = grind (arith, nat_tests)
+found_idle Idle b e f = cc
+found_idle (SetTo node) b e f = cc
+found_idle (Kept node refusal) b e f = cc
 
 -- a time that is moved on, and off by no more than the drift
 moved_on : (time span drift : ℕ) (by : ℤ) → time < clock_limit → span + 2 * clock_limit ≤ largest → drift ≤ clock_limit → nat_abs by ≤ drift →

@@ -6,11 +6,11 @@ use Rattle.std.specs.Option.{unwrap_or}
 use Rattle.midpoint.specs.Midpoint.{midpoint}
 use Rattle.midpoint.specs.Refusals.{first_applying}
 use Rattle.midpoint.specs.Setting.{unusable}
-use Rattle.midpoint.specs.Setting as setting
+use Rattle.midpoint.specs.Setting as of_readings
 use Rattle.midpoint.specs.declared.refusal.Code.{Code}
 use Rattle.clock.specs.Deviation.{deviation_of, moved, largest}
 use Rattle.clock.specs.Setting.{untimely, readings, next_round_of}
-use Rattle.clock.specs.Setting as timing
+use Rattle.clock.specs.Setting as of_times
 use Rattle.clock.specs.declared.limits.Clock.{Clock}
 use Rattle.schedule.specs.declared.heard.Heard.{Heard}
 use Rattle.schedule.specs.declared.heard.Heard.TheVariants.{Nothing, Once, Several}
@@ -83,8 +83,8 @@ standing clock time = record { shown = clock.shown; round = clock.round; time = 
 
 -- number and place of each refusal
 abbrev pub code_of : Refusal → Code
-code_of (Time refusal) = timing.code_of refusal
-code_of (Readings refusal) = setting.code_of refusal
+code_of (Time refusal) = of_times.code_of refusal
+code_of (Readings refusal) = of_readings.code_of refusal
 
 abbrev pub seen : Outcome → Seen
 seen Idle = Seen.idle
