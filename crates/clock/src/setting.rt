@@ -1,5 +1,5 @@
 //! A node's clock goes on, and is set at the end of a round.
-ghost use Rattle.std.specs.Prelude.{◌≡◌, ◌<◌, ◌≤◌};
+ghost use Rattle.std.specs.Prelude.{◌≡◌, ℕ, ◌<◌, ◌≤◌, take};
 ghost use Rattle.midpoint.specs.Refusals.{ByRows};
 ghost use Rattle.midpoint.specs.Setting.{SetSays, most_readings};
 ghost use Rattle.clock.specs.Setting.{untimely, code_of, GoneOn, SetBy, read_of, readings, shown_after, next_round_of, Showable};
@@ -118,9 +118,9 @@ impl Clock {
         }
     }
 
-    // What the node reads of each node.
+    // What the node reads of each node, and so of those of a cluster of any size.
     fn readings(self, node: usize, heard: &[Option<i64>; MAX_NODES]) -> [u64; MAX_NODES]
-        ensures { result ≡ readings most_readings node self.shown heard.now }
+        ensures { (nodes : ℕ) → nodes ≤ most_readings → take nodes result ≡ readings nodes node self.shown heard.now }
     {
         array::from_fn(|q| {
             if q == node {
