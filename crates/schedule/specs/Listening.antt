@@ -1,6 +1,6 @@
 -- Listening in a slot. Assumes nothing: these are definitions.
 use Rattle.std.specs.Prelude.{◌≡◌, ℕ, Bool, cond, not, ◌&&◌, List, [], ◌∷◌, is_some, Some, None, filter, Option, ◌==◌, nat_le, nat_lt}
-use Rattle.midpoint.specs.Refusals.{Row, first_applying}
+use Rattle.midpoint.specs.Refusals.{Row, refused_if, first_applying}
 use Rattle.midpoint.specs.declared.refusal.Code.{Code}
 use Rattle.clock.specs.Deviation.{deviation_of}
 use Rattle.schedule.specs.Slots.{Timing, owner_of, slot_start, send_time_of, slot_end_of}
@@ -27,10 +27,7 @@ whole_in t slot wire began ended = wire == owner_of t slot && nat_le (slot_start
 module _ {M : Type 0} where
   -- An arrival that is not taken: it ended before it began, or before the last time that the listener has seen.
   abbrev pub untimely : ℕ → Arrival M → List (Row Refusal)
-  untimely last a =
-      record { applies = nat_lt a.ended a.began; refusal = EndsBeforeItBegan }
-      ∷ record { applies = nat_lt a.ended last; refusal = Earlier }
-      ∷ []
+  untimely last a = refused_if (nat_lt a.ended a.began) EndsBeforeItBegan ∷ refused_if (nat_lt a.ended last) Earlier ∷ []
 
   abbrev pub timely : ℕ → Arrival M → Bool
   timely last a = not (is_some (first_applying (untimely last a)))

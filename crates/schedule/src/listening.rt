@@ -91,10 +91,9 @@ impl<M: Copy> Listener<M> {
         let answer = self.timely(arrival);
         let listener = match answer {
             Ok(()) => Listener {
-                schedule: self.schedule,
-                slot: self.slot,
                 last: arrival.ended,
                 whole: self.whole_with(arrival),
+                ..self
             },
             Err(_) => self,
         };
@@ -134,10 +133,7 @@ impl<M: Copy> Listener<M> {
     fn received(self, arrival: Arrival<M>) -> Option<Received<M>>
         ensures { result ≡ received_of self.schedule self.slot arrival }
     {
-        if !self.is_whole(arrival) {
-            return None;
-        }
-        Some(Received {
+        self.is_whole(arrival).then(|| Received {
             deviation: self.deviation(arrival.began),
             message: arrival.message,
         })
@@ -175,10 +171,11 @@ impl Schedule {
     ) -> Option<Received<M>>
         ensures { result ≡ heard_in self.now slot time arrivals.now }
     {
-        let mut listener = Listener::new(*self, slot, time);
-        for arrival in arrivals {
-            listener = listener.tell(*arrival).listener;
-        }
-        listener.heard()
+        let told = arrivals
+            .iter()
+            .fold(Listener::new(*self, slot, time), |listener, arrival| {
+                listener.tell(*arrival).listener
+            });
+        told.heard()
     }
 }
