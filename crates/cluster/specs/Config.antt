@@ -23,7 +23,7 @@ code_of (Numbers unfit) = numbers.code_of unfit
 code_of Pause = record { number = 6; place = 0 }
 code_of Length = record { number = 6; place = 1 }
 
--- the same for one that a schedule is turned away with
+-- the refusal of a schedule's times, as one of these
 abbrev pub of_schedule : of_slots.Unfit → Unfit
 of_schedule PauseTooShort = Pause
 of_schedule LengthTooShort = Length

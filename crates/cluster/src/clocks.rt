@@ -54,6 +54,7 @@ impl From<midpoint::Refusal> for Refusal {
     }
 }
 
+/// Its number and place in the fixed list of refusals.
 impl From<Refusal> for Code {
     ghost from_gives = { λ refusal code. code ≡ code_of refusal };
 
@@ -65,7 +66,7 @@ impl From<Refusal> for Code {
     }
 }
 
-// The node in the next round.
+/// The node in the next round.
 impl From<Outcome> for Player {
     ghost from_gives = { λ outcome player. player ≡ next_player outcome };
 
@@ -117,10 +118,9 @@ impl Clocks {
     {
         let outcomes = self.outcomes(round);
         let clocks = Clocks {
-            cluster: self.cluster,
-            span: self.span,
             common: self.common.saturating_add(self.span),
             players: outcomes.map(Player::from),
+            ..self
         };
         Played { clocks, outcomes }
     }
