@@ -21,6 +21,7 @@ use Rattle.cluster.specs.Theorems.{good_in, Shows, KeepsLimits, Apart, Halves, R
 use Rattle.cluster.specs.declared.round.Round.{Round}
 use Rattle.cluster.specs.declared.clocks.Clocks.{Clocks}
 use Rattle.cluster.specs.declared.clocks.Played.{Played}
+use Rattle.cluster.specs.declared.clocks.GoodNode.{GoodNode}
 use Rattle.cluster.specs.declared.clocks.Outcome.{Outcome}
 use Rattle.cluster.specs.declared.clocks.Outcome.TheVariants.{Idle, SetTo, Kept}
 use Rattle.cluster.specs.declared.clocks.Player.{Player}
@@ -29,18 +30,18 @@ use Rattle.cluster.proofs.Spans.{shows, reads_near}
 
 abbrev time_of : Player → ℕ
 time_of Bad = 0
-time_of (Good clock time) = time
+time_of (Good node) = node.time
 
 -- what the next round finds of a node that was set, and of one of which nothing was made
-found_set : (out : Outcome) (standing : Standing) (b : Clock) (y : ℕ) → seen out ≡ Seen.set_to standing → next_player out ≡ Good b y → y ≡ standing.time
-found_set Idle standing b y e f = absurd (grind (arith, nat_tests))
-found_set (SetTo clock time) standing b y e f = cc
-found_set (Kept clock time code) standing b y e f = absurd (grind (arith, nat_tests))
+found_set : (out : Outcome) (standing : Standing) (b : GoodNode) → seen out ≡ Seen.set_to standing → next_player out ≡ Good b → b.time ≡ standing.time
+found_set Idle standing b e f = cc
+found_set (SetTo node) standing b e f = cc
+found_set (Kept node refusal) standing b e f = cc
 
-found_idle : (out : Outcome) (b : Clock) (y : ℕ) → seen out ≡ Seen.idle → next_player out ≡ Good b y → ⊥
-found_idle Idle b y e f = grind (arith, nat_tests)
-found_idle (SetTo clock time) b y e f = grind (arith, nat_tests)
-found_idle (Kept clock time code) b y e f = grind (arith, nat_tests)
+found_idle : (out : Outcome) (b : GoodNode) → seen out ≡ Seen.idle → next_player out ≡ Good b → ⊥
+found_idle Idle b e f = cc
+found_idle (SetTo node) b e f = cc
+found_idle (Kept node refusal) b e f = cc
 
 -- a time that is moved on, and off by no more than the drift
 moved_on : (time span drift : ℕ) (by : ℤ) → time < clock_limit → span + 2 * clock_limit ≤ largest → drift ≤ clock_limit → nat_abs by ≤ drift →
@@ -61,13 +62,13 @@ module _ (c : Clocks) (r : Round) (limits : KeepsLimits c r) where
   abbrev before : ℕ → clocks.Moment
   before p = record { common = c.common; clock = below_limit (time_at p) }
 
-  shows_time : (p x : ℕ) (a : Clock) → Shows c p a x → time_at p ≡ x
-  shows_time p x a (h, e) = rw e
+  shows_time : (p : ℕ) (a : GoodNode) → Shows c p a → time_at p ≡ a.time
+  shows_time p a (h, e) = rw e
 
   reads_below : (p q : ℕ) → clocks.GoodNode c.cluster (good_in c) p → q < c.cluster.nodes → reads p (time_at p) (heard_by c r p (time_at p)) q < clock_limit
   reads_below p q (h, g) k =
-      let (a, x, s) = shows c p (player c p) h refl g in
-      subst (λ t. reads p t (heard_by c r p t) q < clock_limit) (sym (shows_time p x a s)) (limits.taken p q x a s k)
+      let (a, s) = shows c p (player c p) h refl g in
+      subst (λ t. reads p t (heard_by c r p t) q < clock_limit) (sym (shows_time p a s)) (limits.taken p q a s k)
 
   time_below : (p : ℕ) → clocks.GoodNode c.cluster (good_in c) p → time_at p < clock_limit
   time_below p g = let b = reads_below p p g g.0 in let e = eq-eqb p p refl in rw e at b
@@ -92,13 +93,13 @@ module _ (c : Clocks) (r : Round) (limits : KeepsLimits c r) where
   reads_good : (p q : ℕ) → clocks.GoodNode c.cluster (good_in c) p → clocks.GoodNode c.cluster (good_in c) q → (p ≡ q → ⊥) →
       (time_at q ≤ reads p (time_at p) (heard p) q + error_of c.cluster) × (reads p (time_at p) (heard p) q ≤ time_at q + error_of c.cluster)
   reads_good p q gp gq d =
-      let (a, x, s) = shows c p (player c p) gp.0 refl gp.1 in
-      let (b, y, t) = shows c q (player c q) gq.0 refl gq.1 in
+      let (a, s) = shows c p (player c p) gp.0 refl gp.1 in
+      let (b, t) = shows c q (player c q) gq.0 refl gq.1 in
       let small : error_of c.cluster ≤ clock_limit = omega (arith, c.cluster.steady, c.cluster.exact) in
-      let e = shows_time q y b t in
+      let e = shows_time q b t in
       let (under, over) =
-      reads_near c r p (time_at p) q y (error_of c.cluster) b (time_below p gp) (omega (arith, time_below q gq)) small t (λ e. absurd (d e))
-      (limits.jitters p q x y a b s t) in
+      reads_near c r p (time_at p) q (error_of c.cluster) b (time_below p gp) (omega (arith, time_below q gq)) small t (λ e. absurd (d e))
+      (limits.jitters p q a b s t) in
       (omega arith, omega arith)
 
   as_round : clocks.Round c.cluster (good_in c) heard before (λ p. record { common = c.common; clock = set p })
@@ -120,17 +121,17 @@ module _ (c : Clocks) (r : Round) (limits : KeepsLimits c r) where
   }
 
   -- a good node is set
-  is_set : (p x : ℕ) (a : Clock) → Shows c p a x → outcome c r p ≡ Seen.set_to (left_at c r p (middle p) a.round)
-  is_set p x a (h, e) =
+  is_set : (p : ℕ) (a : GoodNode) → Shows c p a → outcome c r p ≡ Seen.set_to (left_at c r p (middle p) a.clock.round)
+  is_set p a (h, e) =
       let g : good_in c p ≡ true = rw e in
-      let t = shows_time p x a (h, e) in
+      let t = shows_time p a (h, e) in
       let u = usable p (h, g) in
-      let l = limits.timely p x a (h, e) in
+      let l = limits.timely p a (h, e) in
       let b = time_below p (h, g) in
-      let timely : first_applying (untimely a.shown p x) ≡ None = grind (arith, nat_tests) in
-      let usable_at : first_applying (unusable c.cluster.faults (all_read c r p x)) ≡ None =
+      let timely : first_applying (untimely a.clock.shown p a.time) ≡ None = grind (arith, nat_tests) in
+      let usable_at : first_applying (unusable c.cluster.faults (all_read c r p a.time)) ≡ None =
       subst (λ y. first_applying (unusable c.cluster.faults (all_read c r p y)) ≡ None) t u in
-      let at : middle p ≡ midpoint c.cluster.faults (all_read c r p x) = ap (λ y. midpoint c.cluster.faults (all_read c r p y)) t in
+      let at : middle p ≡ midpoint c.cluster.faults (all_read c r p a.time) = ap (λ y. midpoint c.cluster.faults (all_read c r p y)) t in
       rw (at, e, timely, usable_at)
 
   -- what a good node shows as the next round ends; it was good before
@@ -150,23 +151,23 @@ module _ (c : Clocks) (r : Round) (limits : KeepsLimits c r) where
     next_at : (p : ℕ) → p < 16 → player played.clocks p ≡ next_player (out_of p)
     next_at p h = ap (λ l. get_or l p Bad) plays.players ∙ get_or-map next_player played.outcomes p Idle Bad (omega (arith, long))
 
-    was : (p y : ℕ) (b : Clock) (node : Player) → p < c.cluster.nodes → player played.clocks p ≡ Good b y → player c p ≡ node →
-        clocks.GoodNode c.cluster (good_in c) p × (y ≡ run_on c r p (middle p))
-    was p y b Bad h f e =
+    was : (p : ℕ) (b : GoodNode) (node : Player) → p < c.cluster.nodes → player played.clocks p ≡ Good b → player c p ≡ node →
+        clocks.GoodNode c.cluster (good_in c) p × (b.time ≡ run_on c r p (middle p))
+    was p b Bad h f e =
         let small : p < 16 = omega (arith, c.cluster.most) in
-        absurd (found_idle (out_of p) b y (seen_at p small ∙ rw e) (sym (next_at p small) ∙ f))
-    was p y b (Good a x) h f e =
+        absurd (found_idle (out_of p) b (seen_at p small ∙ rw e) (sym (next_at p small) ∙ f))
+    was p b (Good a) h f e =
         let small : p < 16 = omega (arith, c.cluster.most) in
-        ((h, rw e), found_set (out_of p) (left_at c r p (middle p) a.round) b y (seen_at p small ∙ is_set p x a (h, e)) (sym (next_at p small) ∙ f))
+        ((h, rw e), found_set (out_of p) (left_at c r p (middle p) a.clock.round) b (seen_at p small ∙ is_set p a (h, e)) (sym (next_at p small) ∙ f))
 
   -- good clocks that are no more than d apart, as moments
   as_apart : (d : ℕ) → Apart c d → clocks.Apart c.cluster (good_in c) d before
   as_apart d apart p q gp gq =
-      let (a, x, s) = shows c p (player c p) gp.0 refl gp.1 in
-      let (b, y, t) = shows c q (player c q) gq.0 refl gq.1 in
-      let near = apart p q x y a b s t in
-      let ep = is_shown (time_at p) (time_below p gp) ∙ shows_time p x a s in
-      let eq = is_shown (time_at q) (time_below q gq) ∙ shows_time q y b t in
+      let (a, s) = shows c p (player c p) gp.0 refl gp.1 in
+      let (b, t) = shows c q (player c q) gq.0 refl gq.1 in
+      let near = apart p q a b s t in
+      let ep = is_shown (time_at p) (time_below p gp) ∙ shows_time p a s in
+      let eq = is_shown (time_at q) (time_below q gq) ∙ shows_time q b t in
       omega (arith, ints)
 
   set_near : (d p q : ℕ) → Apart c d → clocks.GoodNode c.cluster (good_in c) p → clocks.GoodNode c.cluster (good_in c) q →
@@ -183,15 +184,15 @@ module _ (c : Clocks) (r : Round) (limits : KeepsLimits c r) where
   runs_on : (p : ℕ) → clocks.GoodNode c.cluster (good_in c) p →
       (run_on c r p (middle p) ≤ middle p + c.span + c.cluster.drift) × (middle p + c.span ≤ run_on c r p (middle p) + c.cluster.drift)
   runs_on p g =
-      let (a, x, s) = shows c p (player c p) g.0 refl g.1 in
+      let (a, s) = shows c p (player c p) g.0 refl g.1 in
       moved_on (middle p) c.span c.cluster.drift (drift_of r p) (middle_below p g) (omega (arith, limits.counted)) (omega (arith, c.cluster.steady))
-      (limits.drifts p x a s)
+      (limits.drifts p a s)
 
 pub halves : Halves
-halves c r played d plays limits apart p q x y a b (hp, ep) (hq, eq) =
+halves c r played d plays limits apart p q a b (hp, ep) (hq, eq) =
     let nodes : played.clocks.cluster.nodes ≡ c.cluster.nodes = ap (λ k. k.nodes) plays.cluster in
-    let (gp, fp) = was c r limits played plays p x a (player c p) (omega arith) ep refl in
-    let (gq, fq) = was c r limits played plays q y b (player c q) (omega arith) eq refl in
+    let (gp, fp) = was c r limits played plays p a (player c p) (omega arith) ep refl in
+    let (gq, fq) = was c r limits played plays q b (player c q) (omega arith) eq refl in
     omega (arith, set_near c r limits d p q apart gp gq, runs_on c r limits p gp, runs_on c r limits q gq)
 
 pub stays_together : StaysTogether
@@ -207,7 +208,7 @@ stays_together c r (suc k) rounds apart =
     let next = rounds.next k (omega arith) in
     let same : (c (suc k)).cluster ≡ (c k).cluster = ap (λ l. l.cluster) (sym next) ∙ played.cluster in
     let near = halves (c k) (r k) (rounds.played k) (bound_of (c k).cluster) played (rounds.limits k (omega arith)) (stays_together c r k before apart) in
-    λ p q x y a b s t.
-    let l = subst (λ l. Apart l (bound_of (c k).cluster / 2 + rest_of (c k).cluster)) next near p q x y a b s t in
+    λ p q a b s t.
+    let l = subst (λ l. Apart l (bound_of (c k).cluster / 2 + rest_of (c k).cluster)) next near p q a b s t in
     let e = ap bound_of same in
     omega arith

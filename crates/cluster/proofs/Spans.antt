@@ -9,12 +9,12 @@ use Rattle.midpoint.specs.Setting.{clock_limit}
 use Rattle.midpoint.proofs.Ranks.{holds}
 use Rattle.clock.specs.Deviation.{deviation_of, moved}
 use Rattle.clock.specs.Setting.{reads, readings}
-use Rattle.clock.specs.declared.limits.Clock.{Clock}
 use Rattle.clock.proofs.Nodes.{few_outside}
 use Rattle.cluster.specs.Rounds.{player, jitter_of, told, heard_by, all_read}
 use Rattle.cluster.specs.Theorems.{good_in, Shows, NotPulledOut}
 use Rattle.cluster.specs.declared.round.Round.{Round}
 use Rattle.cluster.specs.declared.clocks.Clocks.{Clocks}
+use Rattle.cluster.specs.declared.clocks.GoodNode.{GoodNode}
 use Rattle.cluster.specs.declared.clocks.Player.{Player}
 use Rattle.cluster.specs.declared.clocks.Player.TheVariants.{Good, Bad}
 
@@ -25,9 +25,9 @@ read_near own time most jitter l h m n = (grind (arith, ints), grind (arith, int
 
 -- a node that is good shows something
 pub shows : (c : Clocks) (p : ℕ) (node : Player) → p < c.cluster.nodes → player c p ≡ node → good_in c p ≡ true →
-    (clock : Clock) × (time : ℕ) × Shows c p clock time
+    (good : GoodNode) × Shows c p good
 shows c p Bad h e g = absurd (grind (arith, nat_tests))
-shows c p (Good clock time) h e g = (clock, time, (h, e))
+shows c p (Good good) h e g = (good, (h, e))
 
 -- what is heard of a node of the cluster
 pub heard_at : (c : Clocks) (r : Round) (p own q : ℕ) → q < c.cluster.nodes → get_or (heard_by c r p own) q None ≡ told c r p own q
@@ -35,36 +35,36 @@ unfolding heard_by
 heard_at c r p own q h = get_or-map-range_with_len (told c r p own) 0 16 q q None (omega (arith, c.cluster.most)) (omega arith)
 
 -- what a node reads of a good one, itself among them
-pub reads_near : (c : Clocks) (r : Round) (p own q time most : ℕ) (clock : Clock) → own < clock_limit → time < clock_limit → most ≤ clock_limit →
-    Shows c q clock time → (p ≡ q → own ≡ time) → ((p ≡ q → ⊥) → nat_abs (jitter_of r p q) ≤ most) →
-    (time ≤ reads p own (heard_by c r p own) q + most) × (reads p own (heard_by c r p own) q ≤ time + most)
-reads_near c r p own q time most clock l t m (h, e) itself near =
+pub reads_near : (c : Clocks) (r : Round) (p own q most : ℕ) (b : GoodNode) → own < clock_limit → b.time < clock_limit → most ≤ clock_limit →
+    Shows c q b → (p ≡ q → own ≡ b.time) → ((p ≡ q → ⊥) → nat_abs (jitter_of r p q) ≤ most) →
+    (b.time ≤ reads p own (heard_by c r p own) q + most) × (reads p own (heard_by c r p own) q ≤ b.time + most)
+reads_near c r p own q most b l t m (h, e) itself near =
     let a = heard_at c r p own q h in
     elim (cases_Bool (eqb q p)) [
       | inl same ↦ let s = itself (sym (eqb-true q p same)) in rw same (omega arith, omega arith)
       | inr other ↦
           let n = near (λ d. eqb-false q p other (sym d)) in
-          rw (other, a, e) (read_near own time most (jitter_of r p q) l t m n)
+          rw (other, a, e) (read_near own b.time most (jitter_of r p q) l t m n)
     ]
 
-same_time : (c : Clocks) (p x y : ℕ) (a b : Clock) → player c p ≡ Good a x → player c p ≡ Good b y → x ≡ y
-same_time c p x y a b e f = let g : Good a x ≡ Good b y = sym e ∙ f in cc
+same_time : (c : Clocks) (p : ℕ) (a b : GoodNode) → player c p ≡ Good a → player c p ≡ Good b → a.time ≡ b.time
+same_time c p a b e f = let g : Good a ≡ Good b = sym e ∙ f in cc
 
 pub not_pulled_out : NotPulledOut
 unfolding readings
-not_pulled_out c r p x low high most a few span fits small g near =
-    let y : ℕ → ℕ = reads p x (heard_by c r p x) in
-    let (lx, hx) = span p x a g in
+not_pulled_out c r p low high most a few span fits small g near =
+    let y : ℕ → ℕ = reads p a.time (heard_by c r p a.time) in
+    let (lx, hx) = span p a g in
     let outer =
     few_outside c.cluster.nodes (low - most) (high + most) (good_in c) y
     (λ q h good.
-    let (b, time, s) = shows c q (player c q) h refl good in
-    let (l, u) = span q time b s in
+    let (b, s) = shows c q (player c q) h refl good in
+    let (l, u) = span q b s in
     let (under, over) =
-    reads_near c r p x q time most b (omega arith) (omega arith) small s
-    (λ e. same_time c q x time a b (ap (player c) (sym e) ∙ g.1) s.1) (near q time b s) in
+    reads_near c r p a.time q most b (omega arith) (omega arith) small s
+    (λ e. same_time c q a b (ap (player c) (sym e) ∙ g.1) s.1) (near q b s) in
     (omega arith, omega arith)) in
     let long = length-map-range_with_len y 0 c.cluster.nodes in
     let (l, h) =
-    holds c.cluster.faults (low - most) (high + most) (all_read c r p x) (omega (arith, c.cluster.tolerated)) (omega (arith, few)) in
+    holds c.cluster.faults (low - most) (high + most) (all_read c r p a.time) (omega (arith, c.cluster.tolerated)) (omega (arith, few)) in
     (omega arith, h)

@@ -4,6 +4,8 @@ use Rattle.midpoint.specs.Refusals.{Row, row}
 use Rattle.midpoint.specs.declared.refusal.Code.{Code}
 use Rattle.clock.specs.Config as numbers
 use Rattle.clock.specs.declared.limits.Cluster.{Cluster}
+use Rattle.schedule.specs.declared.config.Unfit as of_slots
+use Rattle.schedule.specs.declared.config.Unfit.TheVariants.{PauseTooShort, LengthTooShort, LengthTooLong}
 use Rattle.cluster.specs.declared.limits.Timing.{Timing}
 use Rattle.cluster.specs.declared.config.Unfit.{Unfit}
 use Rattle.cluster.specs.declared.config.Unfit.TheVariants.{Numbers, Pause, Length}
@@ -20,6 +22,12 @@ abbrev pub code_of : Unfit → Code
 code_of (Numbers unfit) = numbers.code_of unfit
 code_of Pause = record { number = 6; place = 0 }
 code_of Length = record { number = 6; place = 1 }
+
+-- the refusal of a schedule's times, as one of these
+abbrev pub of_schedule : of_slots.Unfit → Unfit
+of_schedule PauseTooShort = Pause
+of_schedule LengthTooShort = Length
+of_schedule LengthTooLong = Length
 
 pub record TimingOf (slot pause message wire : ℕ) (t : Timing) : Type 0 where
   pub its_slot : t.slot ≡ slot

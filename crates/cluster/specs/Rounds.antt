@@ -6,13 +6,18 @@ use Rattle.std.specs.Option.{unwrap_or}
 use Rattle.midpoint.specs.Midpoint.{midpoint}
 use Rattle.midpoint.specs.Refusals.{first_applying}
 use Rattle.midpoint.specs.Setting.{unusable}
+use Rattle.midpoint.specs.Setting as of_readings
 use Rattle.midpoint.specs.declared.refusal.Code.{Code}
 use Rattle.clock.specs.Deviation.{deviation_of, moved, largest}
 use Rattle.clock.specs.Setting.{untimely, readings, next_round_of}
+use Rattle.clock.specs.Setting as of_times
 use Rattle.clock.specs.declared.limits.Clock.{Clock}
-use Rattle.cluster.specs.declared.round.Heard.{Heard}
-use Rattle.cluster.specs.declared.round.Heard.TheVariants.{Nothing, Once, Several}
+use Rattle.schedule.specs.declared.heard.Heard.{Heard}
+use Rattle.schedule.specs.declared.heard.Heard.TheVariants.{Nothing, Once, Several}
 use Rattle.cluster.specs.declared.round.Round.{Round}
+use Rattle.cluster.specs.declared.clocks.GoodNode.{GoodNode}
+use Rattle.cluster.specs.declared.clocks.Refusal.{Refusal}
+use Rattle.cluster.specs.declared.clocks.Refusal.TheVariants.{Time, Readings}
 use Rattle.cluster.specs.declared.clocks.Player.{Player}
 use Rattle.cluster.specs.declared.clocks.Player.TheVariants.{Good, Bad}
 use Rattle.cluster.specs.declared.clocks.Outcome.{Outcome}
@@ -26,10 +31,10 @@ player c p = slice_index_or c.players p Bad
 
 abbrev pub is_bad : Player → Bool
 is_bad Bad = true
-is_bad (Good clock time) = false
+is_bad (Good node) = false
 
 -- what the script says that node p gets of node q and by how much wrong it reads it, and by how much its clock runs off
-abbrev pub heard_of : Round → ℕ → ℕ → Heard
+abbrev pub heard_of : Round → ℕ → ℕ → Heard ℕ
 heard_of r p q = slice_index_or (slice_index_or r.heard p []) q Nothing
 
 abbrev pub jitter_of : Round → ℕ → ℕ → ℤ
@@ -40,8 +45,8 @@ drift_of r p = unwrap_or (slice_index_or r.drift p None) (pos 0)
 
 -- how far a node's clock is ahead as the own clock has it: a good one's, wrong by the jitter; of a bad one what it says in one message, else
 -- nothing
-abbrev pub told_by : ℕ → ℕ → ℤ → Player → Heard → Option ℤ
-told_by common own jitter (Good clock time) heard = Some (deviation_of (moved time jitter) own)
+abbrev pub told_by : ℕ → ℕ → ℤ → Player → Heard ℕ → Option ℤ
+told_by common own jitter (Good node) heard = Some (deviation_of (moved node.time jitter) own)
 told_by common own jitter Bad (Once ahead) = Some (deviation_of (min (common + ahead) largest) own)
 told_by common own jitter Bad Nothing = None
 told_by common own jitter Bad Several = None
@@ -76,10 +81,15 @@ pub data Seen : Type 0 where
 abbrev pub standing : Clock → ℕ → Standing
 standing clock time = record { shown = clock.shown; round = clock.round; time = time }
 
+-- number and place of each refusal
+abbrev pub code_of : Refusal → Code
+code_of (Time refusal) = of_times.code_of refusal
+code_of (Readings refusal) = of_readings.code_of refusal
+
 abbrev pub seen : Outcome → Seen
 seen Idle = Seen.idle
-seen (SetTo clock time) = Seen.set_to (standing clock time)
-seen (Kept clock time code) = Seen.kept (standing clock time) code
+seen (SetTo node) = Seen.set_to (standing node.clock node.time)
+seen (Kept node refusal) = Seen.kept (standing node.clock node.time) (code_of refusal)
 
 -- the clock of node p, which shows the own time, is set to the midpoint of what it reads, or stays where the readings are turned away; the round
 -- counts on
@@ -95,16 +105,16 @@ settled c r p own round =
     set_or_kept c r p own round (midpoint c.cluster.faults (all_read c r p own)) (first_applying (unusable c.cluster.faults (all_read c r p own)))
 
 -- where its own time is turned away nothing is set, and the clock runs on
-abbrev pub timely_or_kept : Clocks → Round → ℕ → Clock → ℕ → Option Code → Seen
-timely_or_kept c r p clock time None = settled c r p time clock.round
-timely_or_kept c r p clock time (Some code) = Seen.kept (standing clock (run_on c r p time)) code
+abbrev pub timely_or_kept : Clocks → Round → ℕ → GoodNode → Option Code → Seen
+timely_or_kept c r p node None = settled c r p node.time node.clock.round
+timely_or_kept c r p node (Some code) = Seen.kept (standing node.clock (run_on c r p node.time)) code
 
-abbrev pub ended : Clocks → Round → ℕ → Clock → ℕ → Seen
-ended c r p clock time = timely_or_kept c r p clock time (first_applying (untimely clock.shown p time))
+abbrev pub ended : Clocks → Round → ℕ → GoodNode → Seen
+ended c r p node = timely_or_kept c r p node (first_applying (untimely node.clock.shown p node.time))
 
 abbrev pub outcome_of : Clocks → Round → ℕ → Player → Seen
 outcome_of c r p Bad = Seen.idle
-outcome_of c r p (Good clock time) = ended c r p clock time
+outcome_of c r p (Good node) = ended c r p node
 
 abbrev pub outcome : Clocks → Round → ℕ → Seen
 outcome c r p = outcome_of c r p (player c p)
@@ -116,8 +126,8 @@ outcomes_of c r = map (outcome c r) (range_with_len 0 16)
 -- the node in the next round
 abbrev pub next_player : Outcome → Player
 next_player Idle = Bad
-next_player (SetTo clock time) = Good clock time
-next_player (Kept clock time code) = Good clock time
+next_player (SetTo node) = Good node
+next_player (Kept node refusal) = Good node
 
 -- a round that was played: what it made of each node, and the cluster as the next round ends
 pub record Plays (c : Clocks) (r : Round) (played : Played) : Type 0 where
@@ -126,12 +136,6 @@ pub record Plays (c : Clocks) (r : Round) (played : Played) : Type 0 where
   pub common : played.clocks.common ≡ min (c.common + c.span) largest
   pub span : played.clocks.span ≡ c.span
   pub cluster : played.clocks.cluster ≡ c.cluster
-
--- one message more of a bad node in its slot
-abbrev pub one_more : Heard → ℕ → Heard
-one_more Nothing ahead = Once ahead
-one_more (Once first) ahead = Several
-one_more Several ahead = Several
 
 -- an entry put into a table at row p and column q, or into a row at p, where that is a node of the largest cluster
 abbrev pub with_entry : {X : Type 0} → List (List X) → ℕ → ℕ → X → List (List X)

@@ -8,37 +8,36 @@ use Rattle.clock.specs.Deviation.{largest}
 use Rattle.clock.specs.Rounds.{FewBad}
 use Rattle.clock.specs.Setting.{reads}
 use Rattle.clock.specs.Theorems.{rest_of}
-use Rattle.clock.specs.declared.limits.Clock.{Clock}
 use Rattle.cluster.specs.Rounds.{player, is_bad, heard_of, jitter_of, drift_of, heard_by, all_read, Plays}
-use Rattle.cluster.specs.declared.round.Heard.{Heard}
-use Rattle.cluster.specs.declared.round.Heard.TheVariants.{Nothing, Once, Several}
+use Rattle.schedule.specs.declared.heard.Heard.{Heard}
+use Rattle.schedule.specs.declared.heard.Heard.TheVariants.{Nothing, Once, Several}
 use Rattle.cluster.specs.declared.round.Round.{Round}
 use Rattle.cluster.specs.declared.clocks.Clocks.{Clocks}
 use Rattle.cluster.specs.declared.clocks.Played.{Played}
+use Rattle.cluster.specs.declared.clocks.GoodNode.{GoodNode}
 use Rattle.cluster.specs.declared.clocks.Player.TheVariants.{Good}
 
 -- which nodes are good, and one of the cluster's that is, with its clock and what it shows as the round ends
 abbrev pub good_in : Clocks → ℕ → Bool
 good_in c q = not (is_bad (player c q))
 
-abbrev pub Shows : Clocks → ℕ → Clock → ℕ → Type 0
-Shows c p clock time = (p < c.cluster.nodes) × (player c p ≡ Good clock time)
+abbrev pub Shows : Clocks → ℕ → GoodNode → Type 0
+Shows c p node = (p < c.cluster.nodes) × (player c p ≡ Good node)
 
 -- A round in which the script keeps the cluster's limits: no more bad nodes than it allows; good nodes read each other wrong by no more than the
 -- error, and run off by no more than the drift; and no good node's time goes back or comes to the limit, nor does a reading of its, and numbers
 -- are large enough for common time.
 pub record KeepsLimits (c : Clocks) (r : Round) : Type 0 where
   pub few : FewBad c.cluster (good_in c)
-  pub jitters :
-      (p q x y : ℕ) (a b : Clock) → Shows c p a x → Shows c q b y → (p ≢ q) → unsigned_abs (jitter_of r p q) ≤ error_of c.cluster
-  pub drifts : (p x : ℕ) (a : Clock) → Shows c p a x → unsigned_abs (drift_of r p) ≤ c.cluster.drift
-  pub timely : (p x : ℕ) (a : Clock) → Shows c p a x → a.shown ≤ x
-  pub taken : (p q x : ℕ) (a : Clock) → Shows c p a x → q < c.cluster.nodes → reads p x (heard_by c r p x) q < clock_limit
+  pub jitters : (p q : ℕ) (a b : GoodNode) → Shows c p a → Shows c q b → (p ≢ q) → unsigned_abs (jitter_of r p q) ≤ error_of c.cluster
+  pub drifts : (p : ℕ) (a : GoodNode) → Shows c p a → unsigned_abs (drift_of r p) ≤ c.cluster.drift
+  pub timely : (p : ℕ) (a : GoodNode) → Shows c p a → a.clock.shown ≤ a.time
+  pub taken : (p q : ℕ) (a : GoodNode) → Shows c p a → q < c.cluster.nodes → reads p a.time (heard_by c r p a.time) q < clock_limit
   pub counted : c.common + c.span + 2 * clock_limit ≤ largest
 
 -- good clocks are no more than d apart as the round ends
 abbrev pub Apart : Clocks → ℕ → Type 0
-Apart c d = (p q x y : ℕ) (a b : Clock) → Shows c p a x → Shows c q b y → x ≤ y + d
+Apart c d = (p q : ℕ) (a b : GoodNode) → Shows c p a → Shows c q b → a.time ≤ b.time + d
 
 -- Whatever the bad nodes say, a round halves what good clocks are apart, up to a rest.
 abbrev pub Halves : Type 0
@@ -60,16 +59,16 @@ StaysTogether =
 -- Nobody is pulled out: where the good clocks lie in a span, and a good node reads no other good one wrong by more than the most, the midpoint of
 -- what it reads lies in the span, but for the most.
 abbrev pub Spanned : Clocks → ℕ → ℕ → Type 0
-Spanned c low high = (q y : ℕ) (b : Clock) → Shows c q b y → (low ≤ y) × (y ≤ high)
+Spanned c low high = (q : ℕ) (b : GoodNode) → Shows c q b → (low ≤ b.time) × (b.time ≤ high)
 
 abbrev pub NotPulledOut : Type 0
 NotPulledOut =
-    (c : Clocks) (r : Round) (p x low high most : ℕ) (a : Clock) → FewBad c.cluster (good_in c) → Spanned c low high → high < clock_limit →
-    most ≤ clock_limit → Shows c p a x → ((q y : ℕ) (b : Clock) → Shows c q b y → (p ≢ q) → unsigned_abs (jitter_of r p q) ≤ most) →
-    (low ≤ midpoint c.cluster.faults (all_read c r p x) + most) × (midpoint c.cluster.faults (all_read c r p x) ≤ high + most)
+    (c : Clocks) (r : Round) (p low high most : ℕ) (a : GoodNode) → FewBad c.cluster (good_in c) → Spanned c low high → high < clock_limit →
+    most ≤ clock_limit → Shows c p a → ((q : ℕ) (b : GoodNode) → Shows c q b → (p ≢ q) → unsigned_abs (jitter_of r p q) ≤ most) →
+    (low ≤ midpoint c.cluster.faults (all_read c r p a.time) + most) × (midpoint c.cluster.faults (all_read c r p a.time) ≤ high + most)
 
 -- a lie that comes to no more than half of the limit
-abbrev pub LieFits : Heard → Type 0
+abbrev pub LieFits : Heard ℕ → Type 0
 LieFits Nothing = Unit {0}
 LieFits (Once ahead) = 2 * ahead ≤ clock_limit
 LieFits Several = Unit {0}

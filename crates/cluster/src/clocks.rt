@@ -1,39 +1,79 @@
 //! The good clocks of a cluster, and what a round makes of them.
 ghost use Rattle.std.specs.Prelude.{◌≡◌, ◌*◌, ◌<◌, map, pos, ◌-ℤ◌};
-ghost use Rattle.cluster.specs.Rounds.{seen, run_on, told, heard_by, settled, ended, outcome, outcomes_of, next_player, Plays};
+ghost use Rattle.cluster.specs.Rounds.{code_of, seen, run_on, told, heard_by, settled, ended, outcome, outcomes_of, next_player, Plays};
+ghost use Rattle.cluster.specs.declared.clocks.Refusal.TheVariants.{Time, Readings};
 
 use crate::limits::Timing;
-use crate::round::{Heard, Round};
+use crate::round::Round;
 use clock::{Clock, Cluster, deviation, reading};
-use midpoint::{Code, MAX_NODES, Set};
+use midpoint::{Code, MAX_NODES};
 
-/// A node: a bad one, of which the script says what it does, or a good one, with its clock as the last
-/// round left it and what it shows as this one ends.
+/// A good node: its clock as the last round left it, and what it shows as this one ends.
+#[derive(Clone, Copy)]
+pub struct GoodNode {
+    pub clock: Clock,
+    pub time: u64,
+}
+
+/// A node: a bad one, of which the script says what it does, or a good one.
 #[derive(Clone, Copy)]
 pub enum Player {
     Bad,
-    Good { clock: Clock, time: u64 },
+    Good(GoodNode),
 }
 
-/// What a round makes of a node: nothing of a bad one, and of a good one its clock, set by what it read, or
-/// kept since its readings or its own time were turned away, and what it shows as the next round ends.
+/// What a round makes of a node: nothing of a bad one, and of a good one the node in the next round, its
+/// clock set by what it read, or kept since its readings or its own time were turned away.
 #[derive(Clone, Copy)]
 pub enum Outcome {
     Idle,
-    SetTo { clock: Clock, time: u64 },
-    Kept { clock: Clock, time: u64, code: Code },
+    SetTo(GoodNode),
+    Kept(GoodNode, Refusal),
 }
 
-impl Outcome {
-    // The node in the next round.
-    fn player(self) -> Player
-        ensures { result ≡ next_player self }
-    {
-        match self {
+/// Why a good node's clock was not set: the time that it shows, or what it reads, was turned away.
+#[derive(Clone, Copy, PartialEq, Eq, Debug)]
+pub enum Refusal {
+    Time(clock::Refusal),
+    Readings(midpoint::Refusal),
+}
+
+impl From<clock::Refusal> for Refusal {
+    ghost from_gives = { λ refusal result. result ≡ Time refusal };
+
+    fn from(refusal: clock::Refusal) -> Refusal {
+        Refusal::Time(refusal)
+    }
+}
+
+impl From<midpoint::Refusal> for Refusal {
+    ghost from_gives = { λ refusal result. result ≡ Readings refusal };
+
+    fn from(refusal: midpoint::Refusal) -> Refusal {
+        Refusal::Readings(refusal)
+    }
+}
+
+/// Its number and place in the fixed list of refusals.
+impl From<Refusal> for Code {
+    ghost from_gives = { λ refusal code. code ≡ code_of refusal };
+
+    fn from(refusal: Refusal) -> Code {
+        match refusal {
+            Refusal::Time(why) => Code::from(why),
+            Refusal::Readings(why) => Code::from(why),
+        }
+    }
+}
+
+/// The node in the next round.
+impl From<Outcome> for Player {
+    ghost from_gives = { λ outcome player. player ≡ next_player outcome };
+
+    fn from(outcome: Outcome) -> Player {
+        match outcome {
             Outcome::Idle => Player::Bad,
-            Outcome::SetTo { clock, time } | Outcome::Kept { clock, time, .. } => {
-                Player::Good { clock, time }
-            }
+            Outcome::SetTo(node) | Outcome::Kept(node, _) => Player::Good(node),
         }
     }
 }
@@ -78,10 +118,9 @@ impl Clocks {
     {
         let outcomes = self.outcomes(round);
         let clocks = Clocks {
-            cluster: self.cluster,
-            span: self.span,
             common: self.common.saturating_add(self.span),
-            players: players_after(&outcomes),
+            players: outcomes.map(Player::from),
+            ..self
         };
         Played { clocks, outcomes }
     }
@@ -90,113 +129,112 @@ impl Clocks {
     pub fn ahead(&self, time: u64) -> i128
         ensures { result ≡ pos time -ℤ pos self.now.common }
     {
-        time as i128 - self.common as i128
+        i128::from(time) - i128::from(self.common)
     }
 
     // What the round makes of each node.
     fn outcomes(&self, round: &Round) -> [Outcome; MAX_NODES]
         ensures { map seen result ≡ outcomes_of self.now round.now }
     {
-        let mut all = [Outcome::Idle; MAX_NODES];
-        for p in 0..MAX_NODES {
-            all[p] = self.outcome(round, p);
-        }
-        all
-    }
-
-    // What it makes of node p.
-    fn outcome(&self, round: &Round, p: usize) -> Outcome
-        requires { p < 16 }
-        ensures { seen result ≡ outcome self.now round.now p }
-    {
-        let player = self.players[p];
-        match player {
-            Player::Bad => Outcome::Idle,
-            Player::Good { clock, time } => self.ended(round, p, clock, time),
-        }
-    }
-
-    // What it makes of the clock of the good node p, which shows a time as the round ends.
-    fn ended(&self, round: &Round, p: usize, clock: Clock, time: u64) -> Outcome
-        requires { p < 16 }
-        ensures { seen result ≡ ended self.now round.now p clock time }
-    {
-        let step = clock.go_on(p, time);
-        match step.answer {
-            Ok(()) => self.settled(round, p, step.clock),
-            Err(refusal) => Outcome::Kept {
-                clock: step.clock,
-                time: self.run_on(round, p, time),
-                code: refusal.code(),
+        std::array::from_fn(
+            |node|
+                requires { node < 16 }
+            {
+                Ending {
+                    clocks: self,
+                    round,
+                    node,
+                }
+                .outcome()
             },
+        )
+    }
+}
+
+/// One node at the end of a round that the script tells of.
+#[derive(Clone, Copy)]
+struct Ending<'a> {
+    clocks: &'a Clocks,
+    round: &'a Round,
+    node: usize,
+    ghost below: { node < 16 },
+}
+
+impl Ending<'_> {
+    // What the round makes of the node.
+    fn outcome(&self) -> Outcome
+        ensures { seen result ≡ outcome self.now.clocks.now self.now.round.now self.now.node }
+    {
+        let clocks = self.clocks;
+        match clocks.players[self.node] {
+            Player::Bad => Outcome::Idle,
+            Player::Good(good) => self.ended(good),
+        }
+    }
+
+    // What it makes of a good one.
+    fn ended(&self, good: GoodNode) -> Outcome
+        ensures { seen result ≡ ended self.now.clocks.now self.now.round.now self.now.node good }
+    {
+        let step = good.clock.go_on(self.node, good.time);
+        match step.answer {
+            Ok(()) => self.settled(step.clock),
+            Err(refusal) => {
+                let good = GoodNode {
+                    clock: step.clock,
+                    time: self.run_on(good.time),
+                };
+                Outcome::Kept(good, Refusal::from(refusal))
+            }
         }
     }
 
     // What it makes of a clock that went on to the round's end.
-    fn settled(&self, round: &Round, p: usize, clock: Clock) -> Outcome
-        requires { p < 16 }
-        ensures { seen result ≡ settled self.now round.now p clock.shown clock.round }
+    fn settled(&self, clock: Clock) -> Outcome
+        ensures { seen result ≡ settled self.now.clocks.now self.now.round.now self.now.node clock.shown clock.round }
     {
-        let heard = self.heard(round, p, clock.shown());
-        let step = clock.set(&self.cluster, p, &heard);
-        let time = self.run_on(round, p, step.clock.shown());
+        let heard = self.heard(clock.shown());
+        let step = clock.set(&self.clocks.cluster, self.node, &heard);
+        let good = GoodNode {
+            clock: step.clock,
+            time: self.run_on(step.clock.shown()),
+        };
         match step.answer {
-            Set::To(_) => Outcome::SetTo {
-                clock: step.clock,
-                time,
-            },
-            Set::Refused(refusal) => Outcome::Kept {
-                clock: step.clock,
-                time,
-                code: refusal.code(),
-            },
+            Ok(_) => Outcome::SetTo(good),
+            Err(refusal) => Outcome::Kept(good, Refusal::from(refusal)),
         }
     }
 
-    // The deviation of each node, or nothing, as node p heard them.
-    fn heard(&self, round: &Round, p: usize, own: u64) -> [Option<i64>; MAX_NODES]
-        requires { p < 16 }
-        ensures { result ≡ heard_by self.now round.now p own }
+    // The deviation of each node, or nothing, as this one heard them.
+    fn heard(&self, own: u64) -> [Option<i64>; MAX_NODES]
+        ensures { result ≡ heard_by self.now.clocks.now self.now.round.now self.now.node own }
     {
-        let mut all = [None; MAX_NODES];
-        for q in 0..MAX_NODES {
-            all[q] = self.told(round, p, own, q);
-        }
-        all
+        std::array::from_fn(|other| self.told(own, other))
     }
 
-    // The deviation of node q, or nothing, as node p heard it.
-    fn told(&self, round: &Round, p: usize, own: u64, q: usize) -> Option<i64>
-        requires { (p < 16) × (q < 16) }
-        ensures { result ≡ told self.now round.now p own q }
+    // The deviation of one node, or nothing, as this one heard it.
+    fn told(&self, own: u64, other: usize) -> Option<i64>
+        requires { other < 16 }
+        ensures { result ≡ told self.now.clocks.now self.now.round.now self.now.node own other }
     {
-        let player = self.players[q];
-        match player {
-            Player::Good { time, .. } => Some(deviation(reading(time, round.jitter(p, q)), own)),
-            Player::Bad => match round.heard(p, q) {
-                Heard::Once(ahead) => Some(deviation(self.common.saturating_add(ahead), own)),
-                Heard::Nothing | Heard::Several => None,
-            },
+        let clocks = self.clocks;
+        match clocks.players[other] {
+            Player::Good(good) => {
+                let jitter = self.round.jitter[self.node][other].unwrap_or(0);
+                Some(deviation(reading(good.time, jitter), own))
+            }
+            Player::Bad => {
+                let heard = self.round.heard[self.node][other].only();
+                heard.map(|ahead| deviation(clocks.common.saturating_add(ahead), own))
+            }
         }
     }
 
     // What a clock that is set to a time shows as the next round ends.
-    fn run_on(&self, round: &Round, p: usize, time: u64) -> u64
-        requires { p < 16 }
-        ensures { result ≡ run_on self.now round.now p time }
+    fn run_on(&self, time: u64) -> u64
+        ensures { result ≡ run_on self.now.clocks.now self.now.round.now self.now.node time }
     {
-        reading(time.saturating_add(self.span), round.drift(p))
+        let drift = self.round.drift[self.node].unwrap_or(0);
+        reading(time.saturating_add(self.clocks.span), drift)
     }
-}
-
-// The nodes in the next round.
-fn players_after(outcomes: &[Outcome; MAX_NODES]) -> [Player; MAX_NODES]
-    ensures { result ≡ map next_player outcomes.now }
-{
-    let mut players = [Player::Bad; MAX_NODES];
-    for p in 0..MAX_NODES {
-        let outcome = outcomes[p];
-        players[p] = outcome.player();
-    }
-    players
 }

@@ -1,11 +1,13 @@
 //! Configurations, and why one is turned away.
 ghost use Rattle.std.specs.Prelude.{◌≡◌};
 ghost use Rattle.midpoint.specs.Refusals.{ByRows};
-ghost use Rattle.cluster.specs.Config.{code_of, TimingOf, unfit_timing};
+ghost use Rattle.cluster.specs.Config.{code_of, of_schedule, TimingOf, unfit_timing};
+ghost use Rattle.cluster.specs.declared.config.Unfit.TheVariants.{Numbers};
 
 use crate::limits::Timing;
 use clock::Cluster;
 use midpoint::Code;
+use schedule::Schedule;
 use std::fmt;
 
 /// Why a configuration is turned away: the first that applies, in this order.
@@ -19,13 +21,32 @@ pub enum Unfit {
     Length,
 }
 
-impl Unfit {
-    /// Its number and place in the fixed list of refusals.
-    pub fn code(self) -> Code
-        ensures { result ≡ code_of self }
-    {
-        match self {
-            Unfit::Numbers(unfit) => unfit.code(),
+impl From<clock::Unfit> for Unfit {
+    ghost from_gives = { λ why unfit. unfit ≡ Numbers why };
+
+    fn from(why: clock::Unfit) -> Unfit {
+        Unfit::Numbers(why)
+    }
+}
+
+impl From<schedule::Unfit> for Unfit {
+    ghost from_gives = { λ why unfit. unfit ≡ of_schedule why };
+
+    fn from(why: schedule::Unfit) -> Unfit {
+        match why {
+            schedule::Unfit::PauseTooShort => Unfit::Pause,
+            schedule::Unfit::LengthTooShort | schedule::Unfit::LengthTooLong => Unfit::Length,
+        }
+    }
+}
+
+/// Its number and place in the fixed list of refusals.
+impl From<Unfit> for Code {
+    ghost from_gives = { λ unfit code. code ≡ code_of unfit };
+
+    fn from(unfit: Unfit) -> Code {
+        match unfit {
+            Unfit::Numbers(unfit) => Code::from(unfit),
             Unfit::Pause => Code {
                 number: 6,
                 place: 0,
@@ -40,9 +61,7 @@ impl Unfit {
 
 impl fmt::Display for Unfit {
     fn fmt<W: fmt::Write>(&self, f: &mut fmt::Formatter<W>) -> fmt::Result {
-        let code = self.code();
-        let number = code.number;
-        let place = code.place;
+        let Code { number, place } = Code::from(*self);
         write!(f, "refused {number} at {place}: ")?;
         match self {
             Unfit::Numbers(unfit) => write!(f, "{unfit}"),
@@ -67,13 +86,7 @@ impl Timing {
     ) -> Result<Timing, Unfit>
         ensures { ByRows (unfit_timing cluster.now slot pause message wire) code_of (TimingOf slot pause message wire) result }
     {
-        if pause < cluster.width() + cluster.error() + cluster.drift() {
-            return Err(Unfit::Pause);
-        }
-        let least = pause as u128 + wire as u128 + cluster.width() as u128 + message as u128;
-        if (slot as u128) < least || slot > 1_000_000_000 {
-            return Err(Unfit::Length);
-        }
+        Schedule::new(*cluster, slot, pause, message, wire)?;
         Ok(Timing {
             slot,
             pause,

@@ -15,7 +15,8 @@ pub mod limits;
 pub mod round;
 pub mod theorems;
 
-pub use clocks::{Clocks, Outcome, Played, Player};
+pub use clocks::{Clocks, GoodNode, Outcome, Played, Player, Refusal};
 pub use config::Unfit;
 pub use limits::Timing;
-pub use round::{Heard, Round};
+pub use round::Round;
+pub use schedule::Heard;

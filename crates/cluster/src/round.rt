@@ -1,23 +1,17 @@
 //! What a script says of one round.
-ghost use Rattle.std.specs.Prelude.{◌≡◌, ◌<◌, replicate, Some, None};
-ghost use Rattle.cluster.specs.Rounds.{heard_of, jitter_of, drift_of, one_more, with_entry, with_place};
+ghost use Rattle.std.specs.Prelude.{◌≡◌, replicate, Some, None};
+ghost use Rattle.schedule.specs.Heard.{with_one};
+ghost use Rattle.cluster.specs.Rounds.{heard_of, with_entry, with_place};
 
 use midpoint::MAX_NODES;
-
-/// What a node gets of a bad one in its slot. Of several messages nothing is heard.
-#[derive(Clone, Copy)]
-pub enum Heard {
-    Nothing,
-    Once(u64),
-    Several,
-}
+use schedule::Heard;
 
 /// A round: for each node `p` and bad node `q` what `p` gets of `q`, as a reading ahead of common time;
 /// for each node `p` and good node `q` by how much `p` reads `q` wrong; and by how much the clock of `p`
 /// runs off after its setting. What is not given is 0.
 #[derive(Clone, Copy)]
 pub struct Round {
-    pub heard: [[Heard; MAX_NODES]; MAX_NODES],
+    pub heard: [[Heard<u64>; MAX_NODES]; MAX_NODES],
     pub jitter: [[Option<i64>; MAX_NODES]; MAX_NODES],
     pub drift: [Option<i64>; MAX_NODES],
 }
@@ -38,15 +32,12 @@ impl Round {
 
     /// One message more of the bad node `q` to node `p`. A node past the largest cluster changes nothing.
     pub fn add_message(&mut self, p: usize, q: usize, ahead: u64)
-        ensures heard { self.new.heard ≡ with_entry self.old.heard p q (one_more (heard_of self.old p q) ahead) }
+        ensures heard { self.new.heard ≡ with_entry self.old.heard p q (with_one (heard_of self.old p q) ahead) }
         ensures jitter { self.new.jitter ≡ self.old.jitter }
         ensures drift { self.new.drift ≡ self.old.drift }
     {
         if p < MAX_NODES && q < MAX_NODES {
-            self.heard[p][q] = match self.heard[p][q] {
-                Heard::Nothing => Heard::Once(ahead),
-                Heard::Once(_) | Heard::Several => Heard::Several,
-            };
+            self.heard[p][q] = self.heard[p][q].with(ahead);
         }
     }
 
@@ -70,29 +61,5 @@ impl Round {
         if p < MAX_NODES {
             self.drift[p] = Some(by);
         }
-    }
-
-    // What node p gets of the bad node q.
-    pub(crate) fn heard(&self, p: usize, q: usize) -> Heard
-        requires { (p < 16) × (q < 16) }
-        ensures { result ≡ heard_of self.now p q }
-    {
-        self.heard[p][q]
-    }
-
-    // By how much node p reads the good node q wrong.
-    pub(crate) fn jitter(&self, p: usize, q: usize) -> i64
-        requires { (p < 16) × (q < 16) }
-        ensures { result ≡ jitter_of self.now p q }
-    {
-        self.jitter[p][q].unwrap_or(0)
-    }
-
-    // By how much the clock of node p runs off after its setting.
-    pub(crate) fn drift(&self, p: usize) -> i64
-        requires { p < 16 }
-        ensures { result ≡ drift_of self.now p }
-    {
-        self.drift[p].unwrap_or(0)
     }
 }
