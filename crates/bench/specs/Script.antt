@@ -1,6 +1,6 @@
 -- What the lines of a script make of a cluster, and why one does not fit. Assumes nothing: these are definitions.
-use Rattle.std.specs.Prelude.{◌≡◌, ℕ, Bool, true, false, not, List, [], ◌∷◌, ◌++◌, ℤ, is_some, Some, None, ◌==◌, nat_lt, slice_index_or, slice_set, unsigned_abs}
-use Rattle.std.specs.List.{prefix_len}
+use Rattle.std.specs.Prelude.{◌≡◌, ℕ, Bool, not, List, [], ◌∷◌, ◌++◌, ℤ, is_some, is_none, Some, None, ◌==◌, nat_lt, take, slice_index_or, slice_set, unsigned_abs}
+use Rattle.std.specs.List.{position_or_len}
 use Rattle.midpoint.specs.Refusals.{Row}
 use Rattle.clock.specs.Config.{error_of}
 use Rattle.cluster.specs.Rounds.{player, is_bad, heard_of, one_more, with_entry, with_place}
@@ -13,31 +13,33 @@ use Rattle.bench.specs.declared.script.Running.{Running}
 abbrev pub misfit : Bool → Misfit → Row Misfit
 misfit applies why = record { applies = applies; refusal = why }
 
--- Naming: each node is named once. The first that is not named is the number of those before it that are.
+-- Naming: each node is named once. Where none of the cluster is left, the first that is not named is the number of its nodes.
 abbrev pub unnameable : Naming → ℕ → List (Row Misfit)
-unnameable s node = misfit (not (nat_lt node s.cluster.nodes)) (PastTheCluster node) ∷ misfit (slice_index_or s.named node false) (NamedTwice node) ∷ []
+unnameable s node = misfit (not (nat_lt node s.cluster.nodes)) (PastTheCluster node) ∷ misfit (is_some (slice_index_or s.players node None)) (NamedTwice node) ∷ []
 
 pub record Named (s : Naming) (node : ℕ) (player : Player) (t : Naming) : Type 0 where
-  pub named : t.named ≡ slice_set s.named node true
-  pub players : t.players ≡ slice_set s.players node player
+  pub players : t.players ≡ slice_set s.players node (Some player)
   pub cluster : t.cluster ≡ s.cluster
   pub timing : t.timing ≡ s.timing
 
 abbrev pub first_unnamed : Naming → ℕ
-first_unnamed s = prefix_len (λ b. b) s.named
+first_unnamed s = position_or_len is_none (take s.cluster.nodes s.players)
 
 abbrev pub incomplete : Naming → List (Row Misfit)
 incomplete s = misfit (nat_lt (first_unnamed s) s.cluster.nodes) (NotNamed (first_unnamed s)) ∷ []
 
--- Rounds: a line that names a bad node, or a good one, names one of the cluster.
+-- Rounds: a line that names a bad node, or a good one, names one of the cluster, and then one that passes the test for its kind.
 abbrev pub past : Running → ℕ → Row Misfit
 past s node = misfit (not (nat_lt node s.clocks.cluster.nodes)) (PastTheCluster node)
 
+abbrev pub unless_passed : Running → ℕ → Bool → Misfit → List (Row Misfit)
+unless_passed s node passed why = past s node ∷ misfit (not passed) why ∷ []
+
 abbrev pub not_bad : Running → ℕ → List (Row Misfit)
-not_bad s node = past s node ∷ misfit (not (is_bad (player s.clocks node))) (NotBad node) ∷ []
+not_bad s node = unless_passed s node (is_bad (player s.clocks node)) (NotBad node)
 
 abbrev pub not_good : Running → ℕ → List (Row Misfit)
-not_good s node = past s node ∷ misfit (is_bad (player s.clocks node)) (NotGood node) ∷ []
+not_good s node = unless_passed s node (not (is_bad (player s.clocks node))) (NotGood node)
 
 -- A message is of a bad node to a good one.
 abbrev pub unsayable : Running → ℕ → ℕ → List (Row Misfit)

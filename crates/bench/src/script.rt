@@ -1,7 +1,11 @@
 //! A script, line after line: first the cluster, its timing and its nodes, then round after round.
-ghost use Rattle.std.specs.Prelude.{◌≡◌, ◌<◌, ◌≤◌, MatchResult};
+ghost use Rattle.std.specs.Prelude.{◌≡◌, ◌<◌, ◌≤◌, Bool, map, take, is_none, MatchResult};
+ghost use Rattle.std.specs.List.{position};
+ghost use Rattle.std.specs.Option.{unwrap_or};
 ghost use Rattle.midpoint.specs.Refusals.{ByRows};
-ghost use Rattle.bench.specs.Script.{unnameable, Named, incomplete, not_good, not_bad, unsayable, Said, no_jitter, Jittered, no_drift, Drifted};
+ghost use Rattle.cluster.specs.Rounds.{player};
+ghost use Rattle.cluster.specs.declared.clocks.Player.TheVariants.{Bad};
+ghost use Rattle.bench.specs.Script.{unless_passed, unnameable, Named, incomplete, not_good, not_bad, unsayable, Said, no_jitter, Jittered, no_drift, Drifted};
 
 use crate::entry;
 use crate::entry::Entry;
@@ -26,8 +30,7 @@ enum Stage {
 struct Naming {
     cluster: Cluster,
     timing: Timing,
-    named: [bool; MAX_NODES],
-    players: [Player; MAX_NODES],
+    players: [Option<Player>; MAX_NODES],
 }
 
 /// A cluster that runs, and what the script has said so far of the round under way.
@@ -130,8 +133,7 @@ fn timed(cluster: Cluster, entry: Entry) -> Result<Naming, Misfit> {
     Ok(Naming {
         cluster,
         timing,
-        named: [false; MAX_NODES],
-        players: [Player::Bad; MAX_NODES],
+        players: [None; MAX_NODES],
     })
 }
 
@@ -160,7 +162,7 @@ impl Naming {
             Entry::Bad { node } => Ok(Stage::Naming(self.name(node, Player::Bad)?)),
             Entry::Round => {
                 self.complete()?;
-                let clocks = Clocks::new(self.cluster, self.timing, self.players);
+                let clocks = Clocks::new(self.cluster, self.timing, self.all_players());
                 Ok(Stage::Running(Running {
                     clocks,
                     round: Round::new(),
@@ -175,11 +177,10 @@ impl Naming {
         ensures { ByRows (unnameable self node) (λ e. e) (Named self node player) result }
     {
         let i = index(&self.cluster, node)?;
-        if self.named[i] {
+        if self.players[i].is_some() {
             return Err(Misfit::NamedTwice { node });
         }
-        self.named[i] = true;
-        self.players[i] = player;
+        self.players[i] = Some(player);
         Ok(self)
     }
 
@@ -187,12 +188,27 @@ impl Naming {
     fn complete(&self) -> Result<(), Misfit>
         ensures { ByRows (incomplete self.now) (λ e. e) (λ _. Unit {0}) result }
     {
-        for node in 0..self.cluster.nodes() {
-            if !self.named[node as usize] {
-                return Err(Misfit::NotNamed { node });
-            }
+        match self.first_unnamed() {
+            Some(node) => Err(Misfit::NotNamed { node: node as u64 }),
+            None => Ok(()),
         }
-        Ok(())
+    }
+
+    // The first node of the cluster that is not named.
+    fn first_unnamed(&self) -> Option<usize>
+        ensures { result ≡ position is_none (take self.now.cluster.nodes self.now.players) }
+    {
+        let nodes = self.cluster.nodes() as usize;
+        self.players[..nodes]
+            .iter()
+            .position(|player| player.is_none())
+    }
+
+    // The nodes as they are named. What is not named, as past the cluster, is bad.
+    fn all_players(&self) -> [Player; MAX_NODES]
+        ensures { result ≡ map (λ named. unwrap_or named Bad) self.now.players }
+    {
+        self.players.map(|named| named.unwrap_or(Player::Bad))
     }
 }
 
@@ -268,23 +284,39 @@ impl Running {
     fn good(&self, node: u64) -> Result<usize, Misfit>
         ensures { ByRows (not_good self.now node) (λ e. e) (λ i. (i ≡ node) × (i < 16)) result }
     {
-        let i = index(&self.clocks.cluster, node)?;
-        let player = self.clocks.players[i];
-        match player {
-            Player::Good { .. } => Ok(i),
-            Player::Bad => Err(Misfit::NotGood { node }),
-        }
+        self.index_where(
+            node,
+            |player| matches!(player, Player::Good { .. }),
+            Misfit::NotGood { node },
+        )
     }
 
     // The index of a bad node.
     fn bad(&self, node: u64) -> Result<usize, Misfit>
         ensures { ByRows (not_bad self.now node) (λ e. e) (λ i. (i ≡ node) × (i < 16)) result }
     {
+        self.index_where(
+            node,
+            |player| matches!(player, Player::Bad),
+            Misfit::NotBad { node },
+        )
+    }
+
+    // The index of a node that passes a test, and the misfit of one that does not.
+    fn index_where<F: FnOnce(Player) -> bool>(
+        &self,
+        node: u64,
+        passes: F,
+        misfit: Misfit,
+    ) -> Result<usize, Misfit>
+        requires { F.IsAlwaysCallable passes }
+        ensures { (passed : Bool) × (node < self.now.clocks.cluster.nodes → F.post passes (player self.now.clocks node) passed) × ByRows (unless_passed self.now node passed misfit) (λ e. e) (λ i. (i ≡ node) × (i < 16)) result }
+    {
         let i = index(&self.clocks.cluster, node)?;
-        let player = self.clocks.players[i];
-        match player {
-            Player::Bad => Ok(i),
-            Player::Good { .. } => Err(Misfit::NotBad { node }),
+        if passes(self.clocks.players[i]) {
+            Ok(i)
+        } else {
+            Err(misfit)
         }
     }
 }
@@ -295,12 +327,13 @@ fn show<'a>(out: &mut String, played: Option<Played>) -> Result<(), Fault<'a>> {
         return Ok(());
     };
     let nodes = played.clocks.cluster.nodes() as usize;
-    for node in 0..nodes {
-        show_refusal(out, node, played.outcomes[node])?;
+    let outcomes = &played.outcomes[..nodes];
+    for (node, outcome) in outcomes.iter().enumerate() {
+        show_refusal(out, node, *outcome)?;
     }
     write!(out, "clocks")?;
-    for node in 0..nodes {
-        show_clock(out, &played.clocks, played.outcomes[node])?;
+    for outcome in outcomes {
+        show_clock(out, &played.clocks, *outcome)?;
     }
     writeln!(out)?;
     Ok(())
