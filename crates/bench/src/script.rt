@@ -9,7 +9,7 @@ ghost use Rattle.bench.specs.Script.{unless_passed, unnameable, Named, incomplet
 
 use crate::entry;
 use crate::entry::Entry;
-use crate::reason::{Fault, Lines, Misfit};
+use crate::reason::{Fault, Lines, Misfit, Reason};
 use clock::{Clock, Cluster};
 use cluster::{Clocks, Outcome, Played, Player, Round, Timing};
 use midpoint::MAX_NODES;
@@ -51,31 +51,32 @@ struct Step {
 pub(crate) fn output<'a>(heap: Global, text: &'a str) -> Result<String, Fault<'a>> {
     let mut out = String::new(heap);
     let mut stage = Stage::Start;
-    let mut line = 1usize;
-    for words in text.lines() {
-        match entry::parse(words) {
-            Err(reason) => return Err(Fault::Unreadable { line, reason }),
-            Ok(None) => {}
-            Ok(Some(entry)) => match stage.take(entry) {
-                Err(reason) => return Err(Fault::Unfitting { line, reason }),
-                Ok(step) => {
-                    stage = step.stage;
-                    show(&mut out, step.played)?;
-                }
-            },
-        }
-        line = line.saturating_add(1);
+    for (index, words) in text.lines().enumerate() {
+        let line = index + 1;
+        let step = stage
+            .read(words)
+            .map_err(|reason| Fault::Line { line, reason })?;
+        stage = step.stage;
+        show(&mut out, step.played)?;
     }
-    match stage.end() {
-        Err(reason) => Err(Fault::Unfitting { line, reason }),
-        Ok(played) => {
-            show(&mut out, played)?;
-            Ok(out)
-        }
-    }
+    let line = text.lines().count() + 1;
+    let played = stage.end().map_err(|misfit| Fault::Line {
+        line,
+        reason: Reason::from(misfit),
+    })?;
+    show(&mut out, played)?;
+    Ok(out)
 }
 
 impl Stage {
+    // A line with nothing but a comment on it changes nothing.
+    fn read(self, words: &str) -> Result<Step, Reason<'_>> {
+        match entry::parse(words)? {
+            Some(entry) => Ok(self.take(entry)?),
+            None => Ok(goes_on(self)),
+        }
+    }
+
     fn take(self, entry: Entry) -> Result<Step, Misfit> {
         match self {
             Stage::Start => Ok(goes_on(Stage::Configured(configured(entry)?))),
