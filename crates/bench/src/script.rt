@@ -12,8 +12,8 @@ use crate::entry::Entry;
 use crate::reason::{Fault, Lines, Misfit, Reason};
 use clock::{Clock, Cluster};
 use cluster::{Clocks, Outcome, Played, Player, Round, Timing};
-use midpoint::MAX_NODES;
-use std::alloc::Global;
+use midpoint::{Code, MAX_NODES};
+use std::alloc::{AllocError, Global};
 use std::fmt::Write;
 
 /// How far a script has come.
@@ -59,9 +59,8 @@ pub(crate) fn output<'a>(heap: Global, text: &'a str) -> Result<String, Fault<'a
         stage = step.stage;
         show(&mut out, step.played)?;
     }
-    let line = text.lines().count() + 1;
     let played = stage.end().map_err(|misfit| Fault::Line {
-        line,
+        line: text.lines().count() + 1,
         reason: Reason::from(misfit),
     })?;
     show(&mut out, played)?;
@@ -153,21 +152,18 @@ impl Naming {
     // At the end of the first round common time is 0, so a clock shows there how far it is ahead.
     fn take(self, entry: Entry) -> Result<Stage, Misfit> {
         match entry {
-            Entry::Good { node, ahead } => Ok(Stage::Naming(self.name(
-                node,
-                Player::Good {
+            Entry::Good { node, ahead } => {
+                let player = Player::Good {
                     clock: Clock::new(),
                     time: ahead,
-                },
-            )?)),
+                };
+                Ok(Stage::Naming(self.name(node, player)?))
+            }
             Entry::Bad { node } => Ok(Stage::Naming(self.name(node, Player::Bad)?)),
             Entry::Round => {
                 self.complete()?;
                 let clocks = Clocks::new(self.cluster, self.timing, self.all_players());
-                Ok(Stage::Running(Running {
-                    clocks,
-                    round: Round::new(),
-                }))
+                Ok(Stage::Running(Running::new(clocks)))
             }
             _ => Err(Misfit::Expected(Lines::Nodes)),
         }
@@ -214,28 +210,31 @@ impl Naming {
 }
 
 impl Running {
+    // Nothing has been said yet of the round under way.
+    fn new(clocks: Clocks) -> Running
+        ensures { result.clocks ≡ clocks }
+    {
+        Running {
+            clocks,
+            round: Round::new(),
+        }
+    }
+
     fn take(self, entry: Entry) -> Result<Step, Misfit> {
-        match entry {
+        let running = match entry {
             Entry::Round => {
                 let played = self.clocks.play(&self.round);
-                let next = Running {
-                    clocks: played.clocks,
-                    round: Round::new(),
-                };
-                Ok(Step {
-                    stage: Stage::Running(next),
+                return Ok(Step {
+                    stage: Stage::Running(Running::new(played.clocks)),
                     played: Some(played),
-                })
+                });
             }
-            Entry::Says { from, to, ahead } => Ok(goes_on(Stage::Running(self.says(
-                from, to, ahead,
-            )?))),
-            Entry::Jitter { node, of, by } => Ok(goes_on(Stage::Running(self.jitter(
-                node, of, by,
-            )?))),
-            Entry::Drift { node, by } => Ok(goes_on(Stage::Running(self.drift(node, by)?))),
-            _ => Err(Misfit::Expected(Lines::Rounds)),
-        }
+            Entry::Says { from, to, ahead } => self.says(from, to, ahead)?,
+            Entry::Jitter { node, of, by } => self.jitter(node, of, by)?,
+            Entry::Drift { node, by } => self.drift(node, by)?,
+            _ => return Err(Misfit::Expected(Lines::Rounds)),
+        };
+        Ok(goes_on(Stage::Running(running)))
     }
 
     fn says(mut self, from: u64, to: u64, ahead: u64) -> Result<Running, Misfit>
@@ -323,7 +322,7 @@ impl Running {
 }
 
 // The lines of a round that has ended: the settings that were turned away, then the good clocks.
-fn show<'a>(out: &mut String, played: Option<Played>) -> Result<(), Fault<'a>> {
+fn show(out: &mut String, played: Option<Played>) -> Result<(), AllocError> {
     let Some(played) = played else {
         return Ok(());
     };
@@ -336,26 +335,20 @@ fn show<'a>(out: &mut String, played: Option<Played>) -> Result<(), Fault<'a>> {
     for outcome in outcomes {
         show_clock(out, &played.clocks, *outcome)?;
     }
-    writeln!(out)?;
-    Ok(())
+    writeln!(out)
 }
 
-fn show_refusal<'a>(out: &mut String, node: usize, outcome: Outcome) -> Result<(), Fault<'a>> {
+fn show_refusal(out: &mut String, node: usize, outcome: Outcome) -> Result<(), AllocError> {
     if let Outcome::Kept { code, .. } = outcome {
-        let number = code.number;
-        let place = code.place;
+        let Code { number, place } = code;
         writeln!(out, "refused {number} at {place}: {node}")?;
     }
     Ok(())
 }
 
-fn show_clock<'a>(out: &mut String, clocks: &Clocks, outcome: Outcome) -> Result<(), Fault<'a>> {
-    match outcome {
-        Outcome::Idle => Ok(()),
-        Outcome::SetTo { time, .. } | Outcome::Kept { time, .. } => {
-            let ahead = clocks.ahead(time);
-            write!(out, " {ahead}")?;
-            Ok(())
-        }
+fn show_clock(out: &mut String, clocks: &Clocks, outcome: Outcome) -> Result<(), AllocError> {
+    if let Outcome::SetTo { time, .. } | Outcome::Kept { time, .. } = outcome {
+        write!(out, " {}", clocks.ahead(time))?;
     }
+    Ok(())
 }
