@@ -3,6 +3,7 @@ use Rattle.std.specs.Prelude.{◌≡◌, ℕ, Bool, not, List, [], ◌∷◌, �
 use Rattle.std.specs.List.{position_or_len}
 use Rattle.midpoint.specs.Refusals.{Row}
 use Rattle.clock.specs.Config.{error_of}
+use Rattle.clock.specs.declared.limits.Cluster.{Cluster}
 use Rattle.cluster.specs.Rounds.{player, is_bad, heard_of, one_more, with_entry, with_place}
 use Rattle.cluster.specs.declared.clocks.Player.{Player}
 use Rattle.bench.specs.declared.reason.Misfit.{Misfit}
@@ -13,9 +14,13 @@ use Rattle.bench.specs.declared.script.Running.{Running}
 abbrev pub misfit : Bool → Misfit → Row Misfit
 misfit applies why = record { applies = applies; refusal = why }
 
+-- a node that the cluster does not have
+abbrev pub past : Cluster → ℕ → Row Misfit
+past cluster node = misfit (not (nat_lt node cluster.nodes)) (PastTheCluster node)
+
 -- Naming: each node is named once. Where none of the cluster is left, the first that is not named is the number of its nodes.
 abbrev pub unnameable : Naming → ℕ → List (Row Misfit)
-unnameable s node = misfit (not (nat_lt node s.cluster.nodes)) (PastTheCluster node) ∷ misfit (is_some (slice_index_or s.players node None)) (NamedTwice node) ∷ []
+unnameable s node = past s.cluster node ∷ misfit (is_some (slice_index_or s.players node None)) (NamedTwice node) ∷ []
 
 pub record Named (s : Naming) (node : ℕ) (player : Player) (t : Naming) : Type 0 where
   pub players : t.players ≡ slice_set s.players node (Some player)
@@ -29,11 +34,8 @@ abbrev pub incomplete : Naming → List (Row Misfit)
 incomplete s = misfit (nat_lt (first_unnamed s) s.cluster.nodes) (NotNamed (first_unnamed s)) ∷ []
 
 -- Rounds: a line that names a bad node, or a good one, names one of the cluster, and then one that passes the test for its kind.
-abbrev pub past : Running → ℕ → Row Misfit
-past s node = misfit (not (nat_lt node s.clocks.cluster.nodes)) (PastTheCluster node)
-
 abbrev pub unless_passed : Running → ℕ → Bool → Misfit → List (Row Misfit)
-unless_passed s node passed why = past s node ∷ misfit (not passed) why ∷ []
+unless_passed s node passed why = past s.clocks.cluster node ∷ misfit (not passed) why ∷ []
 
 abbrev pub not_bad : Running → ℕ → List (Row Misfit)
 not_bad s node = unless_passed s node (is_bad (player s.clocks node)) (NotBad node)

@@ -1,11 +1,11 @@
 //! A script, line after line: first the cluster, its timing and its nodes, then round after round.
-ghost use Rattle.std.specs.Prelude.{◌≡◌, ◌<◌, ◌≤◌, Bool, map, take, is_none, MatchResult};
+ghost use Rattle.std.specs.Prelude.{◌≡◌, ◌<◌, Bool, [], ◌∷◌, map, take, is_none};
 ghost use Rattle.std.specs.List.{position};
 ghost use Rattle.std.specs.Option.{unwrap_or};
 ghost use Rattle.midpoint.specs.Refusals.{ByRows};
 ghost use Rattle.cluster.specs.Rounds.{player};
 ghost use Rattle.cluster.specs.declared.clocks.Player.TheVariants.{Bad};
-ghost use Rattle.bench.specs.Script.{unless_passed, unnameable, Named, incomplete, not_good, not_bad, unsayable, Said, no_jitter, Jittered, no_drift, Drifted};
+ghost use Rattle.bench.specs.Script.{past, unless_passed, unnameable, Named, incomplete, not_good, not_bad, unsayable, Said, no_jitter, Jittered, no_drift, Drifted};
 
 use crate::entry;
 use crate::entry::Entry;
@@ -139,7 +139,7 @@ fn timed(cluster: Cluster, entry: Entry) -> Result<Naming, Misfit> {
 
 // The index of a node of the cluster.
 fn index(cluster: &Cluster, node: u64) -> Result<usize, Misfit>
-    ensures { MatchResult result (λ i. (i ≡ node) × (i < cluster.now.nodes)) (λ e. (e ≡ Misfit.PastTheCluster node) × (cluster.now.nodes ≤ node)) }
+    ensures { ByRows (past cluster.now node ∷ []) (λ e. e) (λ i. (i ≡ node) × (i < cluster.now.nodes)) result }
 {
     if node < cluster.nodes() {
         Ok(node as usize)
