@@ -12,9 +12,13 @@ abbrev pub first_applying : {R : Type 0} → List (Row R) → Option R
 first_applying [] = None
 first_applying (row ∷ rows) = cond row.applies (Some row.refusal) (first_applying rows)
 
+-- a row that gives a refusal where a test holds
+abbrev pub refused_if : {R : Type 0} → Bool → R → Row R
+refused_if applies refusal = record { applies = applies; refusal = refusal }
+
 -- a row of the fixed list of all refusals: its number, whether it applies, and the place in the input that it names
 abbrev pub row : ℕ → Bool → ℕ → Row Code
-row number applies place = record { applies = applies; refusal = record { number = number; place = place } }
+row number applies place = refused_if applies (record { number = number; place = place })
 
 -- the answer of a function that turns away by a list of rows: what is promised of a value where no row applies, else the first row that does
 abbrev pub ByRows : {A E R : Type 0} → List (Row R) → (E → R) → (A → Type 0) → Result A E → Type 0

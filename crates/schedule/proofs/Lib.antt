@@ -1,5 +1,5 @@
+pub mod Answered
 pub mod Arrivals
-pub mod Heard
 pub mod Passing
 pub mod Possible
 pub mod Tight

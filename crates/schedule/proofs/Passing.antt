@@ -1,8 +1,7 @@
 -- Messages that pass from node to node: they are whole in their slot, find clocks that are set, and do not overlap. Assumes nothing.
 use borrow.Author.Differences.{ints}
-use Rattle.std.proofs.Common.{◌≡◌, ℕ, zero, suc, ◌+◌, ◌-◌, ◌*◌, ◌<◌, ◌≤◌, Bool, true, eqb, List, get_or, ℤ, pos, ◌+ℤ◌, ◌-ℤ◌, ◌≤ℤ◌, Some, None, Option, sym, refl, inl, inr, mul-le-mul_right, mod-lt, add-mul, div-add-mod', div-mul-le_self, arith}
-use lib.Arith.{digits_div, digits_mod}
-use Rattle.std.proofs.lemmas.Bool.{cases_Bool, cases_lt, eq-eqb, ne_eqb, le-leb}
+use Rattle.std.proofs.Common.{◌≡◌, ℕ, zero, suc, ◌+◌, ◌*◌, ◌<◌, ◌≤◌, Bool, eqb, List, get_or, ℤ, pos, ◌+ℤ◌, ◌-ℤ◌, ◌≤ℤ◌, Some, None, Option, sym, inl, inr, mul-le-mul_right, add-mul, div-mul-le_self, arith}
+use Rattle.std.proofs.lemmas.Bool.{cases_Bool, cases_lt, ne_eqb}
 use Rattle.std.proofs.lemmas.Bool.Decides.{nat_tests}
 use Rattle.midpoint.specs.Setting.{clock_limit}
 use Rattle.clock.specs.Config.{bound_of, width_of}
@@ -11,30 +10,20 @@ use Rattle.clock.specs.Rounds.{Moment, lead, GoodNode, FewBad, Apart, Round}
 use Rattle.clock.specs.Setting.{read_of}
 use Rattle.clock.proofs.Rounds.{stays_between}
 use Rattle.schedule.specs.Config.{timing_of}
-use Rattle.schedule.specs.Listening.{whole_in}
 use Rattle.schedule.specs.Messages.{Instant, instant, AheadBy, Course, FromSlot}
 use Rattle.schedule.specs.Slots.{Timing, owner_of, round_of, slot_of, slot_start, slot_end_of, round_end_of}
-use Rattle.schedule.specs.Theorems.{SlotsFollow, HearsWhole, HearsGoodNodes, ReadsRight, ReadsNoFarther, MakesARound, SetsBefore, NothingOverlaps, Heard, NeverOver, SetInTime}
+use Rattle.schedule.specs.Theorems.{HearsWhole, HearsGoodNodes, ReadsRight, MakesARound, SetsBefore, NothingOverlaps, SetInTime}
 use Rattle.schedule.specs.declared.limits.Schedule.{Schedule}
 
 -- a slot ends a length behind its start
 slot_long : (t : Timing) (slot : ℕ) → slot_end_of t slot ≡ slot_start t slot + t.length
 slot_long t slot = omega (arith, add-mul slot 1 t.length)
 
--- what is in its slot by both ends
-pub whole : (t : Timing) (slot began ended : ℕ) → slot_start t slot ≤ began → ended ≤ slot_end_of t slot →
-    whole_in t slot (owner_of t slot) began ended ≡ true
-whole t slot began ended low high =
-    let own = eq-eqb (owner_of t slot) (owner_of t slot) refl in
-    let l = le-leb (slot_start t slot) began low in
-    let h = le-leb ended (slot_end_of t slot) high in
-    rw (own, l, h)
-
 pub hears_whole : HearsWhole
 hears_whole s slot sent began ended sends way early late =
-    whole (timing_of s) slot began.shown ended.shown
-    (omega (arith, s.before))
-    (omega (arith, s.behind, slot_long (timing_of s) slot))
+    let low : slot_start (timing_of s) slot ≤ began.shown = omega (arith, s.before) in
+    let high : ended.shown ≤ slot_end_of (timing_of s) slot = omega (arith, s.behind, slot_long (timing_of s) slot) in
+    grind (arith, nat_tests)
 
 -- clocks that are compared by what they are ahead of common time
 ahead_by : (a b : Moment) (d : ℕ) → lead a ≤ℤ (lead b +ℤ pos d) → AheadBy d (instant a) (instant b)
@@ -69,9 +58,6 @@ reads_right s slot sent began here there sends left on_time (up, down) (over, un
     let e = read_exactly here.clock.shown (slot_start (timing_of s) slot) s.pause began.clock.shown here.clock.below
     (omega (arith, s.behind, s.most)) low high in
     (omega (arith, ints), omega (arith, ints))
-
-pub reads_no_farther : ReadsNoFarther
-reads_no_farther s slot wire began ended own whole = grind (arith, nat_tests, ints)
 
 -- what was heard in a slot is not read past the pause
 read_from_slot : (t : Timing) (slot own : ℕ) (heard : Option ℤ) → FromSlot t slot heard → read_of own heard ≤ own + t.pause
@@ -128,19 +114,9 @@ set_in_time s good heard before after p q slot at setting few course apart gp gq
     let far = not_far_ahead s good heard before after p q few course apart gp gq in
     omega (arith, ints)
 
-pub heard_with_leads_lem : Heard
-heard_with_leads_lem s good leads p q slot at delay apart gp gq carried sends =
-    let near = apart p q gp gq in
-    let far = apart q p gq gp in
-    (omega (arith, s.before), omega (arith, s.behind, slot_long (timing_of s) slot))
-
 -- a later slot starts when a slot has ended, or later
 starts_later : (t : Timing) (slot later : ℕ) → slot < later → slot_end_of t slot ≤ slot_start t later
 starts_later t slot later h = mul-le-mul_right t.length (omega arith)
-
-pub never_over : NeverOver
-never_over s good leads p q slot later at then apart gp gq order sends next =
-    omega (arith, apart q p gq gp, s.behind, slot_long (timing_of s) slot, starts_later (timing_of s) slot later order)
 
 rises : (f : ℕ → ℕ) (n : ℕ) → ((i : ℕ) → i < n → f i ≤ f (suc i)) → (k j : ℕ) → k ≤ j → j ≤ n → f k ≤ f j
 rises f n step k zero le h = let e : k ≡ 0 = omega arith in rw e (omega arith)
@@ -150,6 +126,14 @@ rises f n step k (suc j) le h =
       | inr same ↦ let e : k ≡ suc j = omega arith in rw e (omega arith)
     ]
 
+-- the slots of a round lie in it
+pub in_round : (s : Schedule) (k p : ℕ) → p < s.cluster.nodes →
+    slot_start (timing_of s) (slot_of (timing_of s) k p) + s.length ≤ round_end_of (timing_of s) k
+in_round s k p h =
+    let n = s.cluster.nodes in
+    let l : slot_of (timing_of s) k p + 1 ≤ (k + 1) * n = omega (arith, add-mul k 1 n) in
+    omega (arith, mul-le-mul_right s.length l, slot_long (timing_of s) (slot_of (timing_of s) k p))
+
 module _ (s : Schedule) (good : ℕ → Bool) (rounds : ℕ) (sends ends : ℕ → ℕ → Instant) (course : Course s good rounds sends ends) where
   abbrev slot : ℕ → ℕ → ℕ
   slot k p = slot_of (timing_of s) k p
@@ -158,16 +142,7 @@ module _ (s : Schedule) (good : ℕ → Bool) (rounds : ℕ) (sends ends : ℕ �
   over_in : (k p q : ℕ) → k < rounds → GoodNode s.cluster good p → GoodNode s.cluster good q →
       (sends k p).common + s.wire + s.message ≤ (ends k q).common
   over_in k p q h gp gq =
-      let within : slot k p + 1 ≤ (k + 1) * s.cluster.nodes = omega (arith, gp.0, add-mul k 1 s.cluster.nodes) in
-      omega (
-        arith,
-        course.sent k p (omega arith) gp,
-        course.over k q h gq,
-        course.ends_together k p q h gp gq,
-        s.behind,
-        slot_long (timing_of s) (slot k p),
-        mul-le-mul_right s.length within,
-      )
+      omega (arith, course.sent k p (omega arith) gp, course.over k q h gq, course.ends_together k p q h gp gq, s.behind, in_round s k p gp.0)
 
   sends_rise : (k j q : ℕ) → k ≤ j → j ≤ rounds → GoodNode s.cluster good q → (sends k q).common ≤ (sends j q).common
   sends_rise k j q le h gq =
@@ -196,14 +171,3 @@ module _ (s : Schedule) (good : ℕ → Bool) (rounds : ℕ) (sends ends : ℕ �
 
 pub nothing_overlaps_lem : NothingOverlaps
 nothing_overlaps_lem s good rounds sends ends k j p q course = overlaps_not s good rounds sends ends course k j p q
-
-pub slots_follow_lem : SlotsFollow
-slots_follow_lem s = record {
-  one_of_each = λ round node h. (digits_div round h, digits_mod round h);
-  each_is_one = λ slot. (div-add-mod' slot s.cluster.nodes, mod-lt slot (omega (arith, s.cluster.enough)));
-  next_starts = λ slot. refl;
-  last_ends = λ round.
-      let e : slot_of (timing_of s) round (s.cluster.nodes - 1) + 1 ≡ (round + 1) * s.cluster.nodes =
-      omega (arith, add-mul round 1 s.cluster.nodes, s.cluster.enough) in
-      rw e;
-}

@@ -1,6 +1,6 @@
 -- What the theorems ask of good nodes and of messages can be met. Assumes nothing.
 use borrow.Author.Differences.{ints}
-use Rattle.std.proofs.Common.{◌≡◌, ℕ, suc, ◌+◌, ◌-◌, ◌*◌, ◌<◌, ◌≤◌, min, Bool, cond, List, ℤ, Some, Option, refl, ap, ◌∙◌, inl, inr, mul-le-mul_right, add-mul, arith}
+use Rattle.std.proofs.Common.{◌≡◌, ℕ, suc, ◌+◌, ◌-◌, ◌<◌, ◌≤◌, min, Bool, cond, List, ℤ, Some, Option, refl, ap, ◌∙◌, inl, inr, mul-le-mul_right, add-mul, arith}
 use Rattle.std.proofs.lemmas.Bool.{cases_Bool}
 use Rattle.midpoint.specs.Setting.{clock_limit}
 use Rattle.clock.specs.Config.{width_of}
@@ -12,14 +12,7 @@ use Rattle.schedule.specs.Messages.{Instant, Course, FromSlot, HeardRound}
 use Rattle.schedule.specs.Slots.{slot_of, slot_start, send_time_of, round_end_of}
 use Rattle.schedule.specs.Possible.{Leads, CourseCanBeRun, MessageCanPass, RoundCanBeHeard}
 use Rattle.schedule.specs.declared.limits.Schedule.{Schedule}
-
--- the slots of a round lie in it
-in_round : (s : Schedule) (k p : ℕ) → p < s.cluster.nodes →
-    slot_start (timing_of s) (slot_of (timing_of s) k p) + s.length ≤ round_end_of (timing_of s) k
-in_round s k p h =
-    let n = s.cluster.nodes in
-    let l : slot_of (timing_of s) k p + 1 ≤ (k + 1) * n = omega (arith, add-mul k 1 n) in
-    omega (arith, mul-le-mul_right s.length l, add-mul (slot_of (timing_of s) k p) 1 s.length)
+use Rattle.schedule.proofs.Passing.{in_round}
 
 module _ (s : Schedule) (good : ℕ → Bool) (rounds : ℕ) (leads : ℕ → ℕ → ℕ) (most : ℕ) (given : Leads s good leads most) where
   -- a clock that shows a time in a round

@@ -11,7 +11,7 @@ use Rattle.clock.specs.Rounds.{Moment, ahead, lead, Within, Round}
 use Rattle.clock.specs.Setting.{read_of, reads, readings, settled}
 use Rattle.clock.specs.declared.limits.Clock.{Clock}
 use Rattle.schedule.specs.Messages.{at}
-use Rattle.schedule.specs.Tight.{LengthIsTight, ShortLengthFails, ShortPauseFails, seven}
+use Rattle.schedule.specs.Tight.{LengthIsTight, ShortPauseFails, seven}
 
 pub length_is_tight_lem : LengthIsTight
 length_is_tight_lem c t short = (
@@ -26,15 +26,6 @@ length_is_tight_lem c t short = (
     unheard = grind (arith, nat_tests);
   },
 )
-
-pub short_length_fails_lem : ShortLengthFails
-short_length_fails_lem = record {
-  sends = refl;
-  way = record { leaves = lit≤ tt; arrives = lit≤ tt; lasts = lit≤ tt };
-  before = lit≤ tt;
-  behind = lit≤ tt;
-  unheard = refl;
-}
 
 -- Seven good clocks as round 0 ends for each: node 1 keeps common time, and the others are ahead by the width.
 abbrev clock_at : (shown round : ℕ) → T (ltb shown clock_limit) → Clock

@@ -1,6 +1,6 @@
 -- The times of a cluster's slots: what is turned away, in the order of the checks. Assumes nothing: these are definitions.
-use Rattle.std.specs.Prelude.{◌≡◌, ℕ, ◌+◌, Bool, List, [], ◌∷◌, nat_lt}
-use Rattle.midpoint.specs.Refusals.{Row}
+use Rattle.std.specs.Prelude.{◌≡◌, ℕ, ◌+◌, List, [], ◌∷◌, nat_lt}
+use Rattle.midpoint.specs.Refusals.{Row, refused_if}
 use Rattle.midpoint.specs.declared.refusal.Code.{Code}
 use Rattle.clock.specs.Config.{error_of, width_of}
 use Rattle.clock.specs.declared.limits.Cluster.{Cluster}
@@ -9,15 +9,12 @@ use Rattle.schedule.specs.declared.limits.Schedule.{Schedule}
 use Rattle.schedule.specs.declared.config.Unfit.{Unfit}
 use Rattle.schedule.specs.declared.config.Unfit.TheVariants.{PauseTooShort, LengthTooShort, LengthTooLong}
 
-abbrev pub misfit : Bool → Unfit → Row Unfit
-misfit applies why = record { applies = applies; refusal = why }
-
 -- a pause in which a message could find a clock that is still to be set; a slot that is too short for what goes on in it, or longer than 10^9
 abbrev pub unfit : Cluster → ℕ → ℕ → ℕ → ℕ → List (Row Unfit)
 unfit c length pause message wire =
-    misfit (nat_lt pause (width_of c + error_of c + c.drift)) PauseTooShort
-    ∷ misfit (nat_lt length (pause + wire + width_of c + message)) LengthTooShort
-    ∷ misfit (nat_lt 1000000000 length) LengthTooLong
+    refused_if (nat_lt pause (width_of c + error_of c + c.drift)) PauseTooShort
+    ∷ refused_if (nat_lt length (pause + wire + width_of c + message)) LengthTooShort
+    ∷ refused_if (nat_lt 1000000000 length) LengthTooLong
     ∷ []
 
 -- number and place of each refusal

@@ -1,5 +1,6 @@
 pub mod Slots
 pub mod Config
+pub mod Heard
 pub mod Listening
 pub mod Messages
 pub mod Theorems

@@ -1,15 +1,16 @@
 -- Listening in a slot. Assumes nothing: these are definitions.
 use Rattle.std.specs.Prelude.{◌≡◌, ℕ, Bool, cond, not, ◌&&◌, List, [], ◌∷◌, is_some, Some, None, filter, Option, ◌==◌, nat_le, nat_lt}
-use Rattle.midpoint.specs.Refusals.{Row, first_applying}
+use Rattle.midpoint.specs.Refusals.{Row, refused_if, first_applying}
 use Rattle.midpoint.specs.declared.refusal.Code.{Code}
 use Rattle.clock.specs.Deviation.{deviation_of}
 use Rattle.schedule.specs.Slots.{Timing, owner_of, slot_start, send_time_of, slot_end_of}
 use Rattle.schedule.specs.Config.{timing_of}
+use Rattle.schedule.specs.Heard.{with_one}
 use Rattle.schedule.specs.declared.limits.Schedule.{Schedule}
+use Rattle.schedule.specs.declared.heard.Heard.{Heard}
+use Rattle.schedule.specs.declared.heard.Heard.TheVariants.{Nothing}
 use Rattle.schedule.specs.declared.listening.Arrival.{Arrival}
 use Rattle.schedule.specs.declared.listening.Received.{Received}
-use Rattle.schedule.specs.declared.listening.Whole.{Whole}
-use Rattle.schedule.specs.declared.listening.Whole.TheVariants.{Nothing, One, Several}
 use Rattle.schedule.specs.declared.listening.Listener.{Listener}
 use Rattle.schedule.specs.declared.listening.Refusal.{Refusal}
 use Rattle.schedule.specs.declared.listening.Refusal.TheVariants.{EndsBeforeItBegan, Earlier}
@@ -26,10 +27,7 @@ whole_in t slot wire began ended = wire == owner_of t slot && nat_le (slot_start
 module _ {M : Type 0} where
   -- An arrival that is not taken: it ended before it began, or before the last time that the listener has seen.
   abbrev pub untimely : ℕ → Arrival M → List (Row Refusal)
-  untimely last a =
-      record { applies = nat_lt a.ended a.began; refusal = EndsBeforeItBegan }
-      ∷ record { applies = nat_lt a.ended last; refusal = Earlier }
-      ∷ []
+  untimely last a = refused_if (nat_lt a.ended a.began) EndsBeforeItBegan ∷ refused_if (nat_lt a.ended last) Earlier ∷ []
 
   abbrev pub timely : ℕ → Arrival M → Bool
   timely last a = not (is_some (first_applying (untimely last a)))
@@ -45,20 +43,13 @@ module _ {M : Type 0} where
   abbrev pub received_of : Schedule → ℕ → Arrival M → Option (Received M)
   received_of s slot a = cond (came_whole s slot a) (Some (as_heard (timing_of s) slot a)) None
 
-  -- one message more that came whole; of several nothing is heard
-  abbrev pub with_one : Whole M → Option (Received M) → Whole M
-  with_one whole None = whole
-  with_one Nothing (Some received) = One received
-  with_one (One first) (Some received) = Several
-  with_one Several (Some received) = Several
+  -- one message more, if it came whole; of several nothing is heard
+  abbrev pub with_received : Heard (Received M) → Option (Received M) → Heard (Received M)
+  with_received whole None = whole
+  with_received whole (Some received) = with_one whole received
 
-  abbrev pub with_arrival : Schedule → ℕ → Whole M → Arrival M → Whole M
-  with_arrival s slot whole a = with_one whole (received_of s slot a)
-
-  abbrev pub answer_of : Whole M → Option (Received M)
-  answer_of Nothing = None
-  answer_of (One received) = Some received
-  answer_of Several = None
+  abbrev pub with_arrival : Schedule → ℕ → Heard (Received M) → Arrival M → Heard (Received M)
+  with_arrival s slot whole a = with_received whole (received_of s slot a)
 
   -- a listener that has heard nothing yet
   pub record Opened (s : Schedule) (slot time : ℕ) (l : Listener M) : Type 0 where

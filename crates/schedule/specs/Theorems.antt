@@ -8,7 +8,8 @@ use Rattle.clock.specs.Setting.{read_of, SetBy}
 use Rattle.clock.specs.declared.limits.Clock.{Clock}
 use Rattle.clock.specs.declared.limits.Cluster.{Cluster}
 use Rattle.schedule.specs.Config.{timing_of}
-use Rattle.schedule.specs.Listening.{whole_in, as_heard, answer_of, Opened, Tells, Answers}
+use Rattle.schedule.specs.Heard.{answer_of}
+use Rattle.schedule.specs.Listening.{whole_in, as_heard, Opened, Tells, Answers}
 use Rattle.schedule.specs.Messages.{Instant, at, instant, AheadBy, SameRound, Sends, Carried, Course, HeardRound}
 use Rattle.schedule.specs.Slots.{Timing, owner_of, round_of, slot_of, slot_start, send_time_of, slot_end_of, round_end_of}
 use Rattle.schedule.specs.declared.limits.Schedule.{Schedule}

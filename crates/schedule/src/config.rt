@@ -23,12 +23,12 @@ pub enum Unfit {
     LengthTooLong,
 }
 
-impl Unfit {
-    /// Its number and place in the fixed list of refusals.
-    pub fn code(self) -> Code
-        ensures { result ≡ code_of self }
-    {
-        let place = match self {
+/// Its number and place in the fixed list of refusals.
+impl From<Unfit> for Code {
+    ghost from_gives = { λ unfit code. code ≡ code_of unfit };
+
+    fn from(unfit: Unfit) -> Code {
+        let place = match unfit {
             Unfit::PauseTooShort => 0,
             Unfit::LengthTooShort | Unfit::LengthTooLong => 1,
         };
@@ -63,8 +63,8 @@ impl Schedule {
         if pause < width + cluster.error() + cluster.drift() {
             return Err(Unfit::PauseTooShort);
         }
-        let least = pause as u128 + wire as u128 + width as u128 + message as u128;
-        if (length as u128) < least {
+        let least = u128::from(pause) + u128::from(wire) + u128::from(width) + u128::from(message);
+        if u128::from(length) < least {
             return Err(Unfit::LengthTooShort);
         }
         if length > MAX_LENGTH {

@@ -4,9 +4,11 @@ ghost use Rattle.std.specs.Prelude.{◌≡◌, ◌≤◌};
 ghost use Rattle.midpoint.specs.Refusals.{ByRows};
 ghost use Rattle.clock.specs.Deviation.{deviation_of};
 ghost use Rattle.schedule.specs.Config.{timing_of};
-ghost use Rattle.schedule.specs.Listening.{code_of, untimely, Opened, ToldBy, answer_of, with_arrival, received_of, came_whole, heard_in};
+ghost use Rattle.schedule.specs.Heard.{answer_of};
+ghost use Rattle.schedule.specs.Listening.{code_of, untimely, Opened, ToldBy, with_arrival, received_of, came_whole, heard_in};
 ghost use Rattle.schedule.specs.Slots.{slot_start, send_time_of};
 
+use crate::heard::Heard;
 use crate::limits::Schedule;
 use clock::deviation;
 use midpoint::Code;
@@ -36,12 +38,12 @@ pub enum Refusal {
     Earlier,
 }
 
-impl Refusal {
-    /// Its number and place in the fixed list of refusals.
-    pub fn code(self) -> Code
-        ensures { result ≡ code_of self }
-    {
-        match self {
+/// Its number and place in the fixed list of refusals.
+impl From<Refusal> for Code {
+    ghost from_gives = { λ refusal code. code ≡ code_of refusal };
+
+    fn from(refusal: Refusal) -> Code {
+        match refusal {
             Refusal::EndsBeforeItBegan | Refusal::Earlier => Code {
                 number: 12,
                 place: 0,
@@ -50,21 +52,14 @@ impl Refusal {
     }
 }
 
-/// What has arrived whole in a slot from its node.
-#[derive(Clone, Copy)]
-enum Whole<M> {
-    Nothing,
-    One(Received<M>),
-    Several,
-}
-
-/// A node that listens in one slot.
+/// A node that listens in one slot: the last time that it has seen, and what has arrived whole in the slot
+/// from its node.
 #[derive(Clone, Copy)]
 pub struct Listener<M> {
     schedule: Schedule,
     slot: u64,
     last: u64,
-    whole: Whole<M>,
+    whole: Heard<Received<M>>,
 }
 
 /// A listener that was told of an arrival, and whether it took it.
@@ -83,7 +78,7 @@ impl<M: Copy> Listener<M> {
             schedule,
             slot,
             last: time,
-            whole: Whole::Nothing,
+            whole: Heard::Nothing,
         }
     }
 
@@ -96,10 +91,9 @@ impl<M: Copy> Listener<M> {
         let answer = self.timely(arrival);
         let listener = match answer {
             Ok(()) => Listener {
-                schedule: self.schedule,
-                slot: self.slot,
                 last: arrival.ended,
                 whole: self.whole_with(arrival),
+                ..self
             },
             Err(_) => self,
         };
@@ -111,10 +105,7 @@ impl<M: Copy> Listener<M> {
     pub fn heard(self) -> Option<Received<M>>
         ensures { result ≡ answer_of self.whole }
     {
-        match self.whole {
-            Whole::One(received) => Some(received),
-            Whole::Nothing | Whole::Several => None,
-        }
+        self.whole.only()
     }
 
     // Whether an arrival is taken.
@@ -131,26 +122,18 @@ impl<M: Copy> Listener<M> {
     }
 
     // What has arrived whole, with one more arrival.
-    fn whole_with(self, arrival: Arrival<M>) -> Whole<M>
+    fn whole_with(self, arrival: Arrival<M>) -> Heard<Received<M>>
         ensures { result ≡ with_arrival self.schedule self.slot self.whole arrival }
     {
-        match self.received(arrival) {
-            None => self.whole,
-            Some(received) => match self.whole {
-                Whole::Nothing => Whole::One(received),
-                Whole::One(_) | Whole::Several => Whole::Several,
-            },
-        }
+        self.received(arrival)
+            .map_or(self.whole, |received| self.whole.with(received))
     }
 
     // The message of an arrival, if it came whole in the slot from the slot's node.
     fn received(self, arrival: Arrival<M>) -> Option<Received<M>>
         ensures { result ≡ received_of self.schedule self.slot arrival }
     {
-        if !self.is_whole(arrival) {
-            return None;
-        }
-        Some(Received {
+        self.is_whole(arrival).then(|| Received {
             deviation: self.deviation(arrival.began),
             message: arrival.message,
         })
@@ -162,8 +145,8 @@ impl<M: Copy> Listener<M> {
     {
         let start = self.schedule.start(self.slot);
         arrival.wire == self.schedule.owner(self.slot)
-            && start <= arrival.began as u128
-            && arrival.ended as u128 <= start + self.schedule.length as u128
+            && start <= u128::from(arrival.began)
+            && u128::from(arrival.ended) <= start + u128::from(self.schedule.length)
     }
 
     // How far the clock of the slot's node is ahead, if its message began at this time. It was due a pause
@@ -172,7 +155,7 @@ impl<M: Copy> Listener<M> {
         requires { slot_start (timing_of self.schedule) self.slot ≤ began }
         ensures { result ≡ deviation_of (send_time_of (timing_of self.schedule) self.slot) began }
     {
-        let into = began as u128 - self.schedule.start(self.slot);
+        let into = u128::from(began) - self.schedule.start(self.slot);
         deviation(self.schedule.pause, into as u64)
     }
 }
@@ -188,10 +171,11 @@ impl Schedule {
     ) -> Option<Received<M>>
         ensures { result ≡ heard_in self.now slot time arrivals.now }
     {
-        let mut listener = Listener::new(*self, slot, time);
-        for arrival in arrivals {
-            listener = listener.tell(*arrival).listener;
-        }
-        listener.heard()
+        let told = arrivals
+            .iter()
+            .fold(Listener::new(*self, slot, time), |listener, arrival| {
+                listener.tell(*arrival).listener
+            });
+        told.heard()
     }
 }

@@ -1,7 +1,7 @@
 //! Slots: whose they are, and when they begin and end by a node's own clock. They count from 0 over all
 //! rounds, as many to a round as there are nodes. A number or a time past 2^64 - 1 is given as that; no
 //! clock comes near it.
-ghost use Rattle.std.specs.Prelude.{◌≡◌, min};
+ghost use Rattle.std.specs.Prelude.{◌≡◌, ◌+◌, min};
 ghost use Rattle.clock.specs.Deviation.{largest};
 ghost use Rattle.schedule.specs.Slots.{owner_of, round_of, slot_of, slot_start, send_time_of, slot_end_of, round_end_of};
 ghost use Rattle.schedule.specs.Config.{timing_of};
@@ -36,21 +36,28 @@ impl Schedule {
     pub(crate) fn start(&self, slot: u64) -> u128
         ensures { result ≡ slot_start (timing_of self.now) slot }
     {
-        slot as u128 * self.length as u128
+        u128::from(slot) * u128::from(self.length)
+    }
+
+    // What a clock shows at a time into a slot.
+    fn time_into(&self, slot: u64, into: u64) -> u64
+        ensures { result ≡ min (slot_start (timing_of self.now) slot + into) largest }
+    {
+        slot.saturating_mul(self.length).saturating_add(into)
     }
 
     /// What the clock of a slot's node shows when it starts to send in it: the slot's start and the pause.
     pub fn send_time(&self, slot: u64) -> u64
         ensures { result ≡ min (send_time_of (timing_of self.now) slot) largest }
     {
-        slot.saturating_mul(self.length).saturating_add(self.pause)
+        self.time_into(slot, self.pause)
     }
 
     /// What a clock shows when a slot ends, which is when the next one starts.
     pub fn slot_end(&self, slot: u64) -> u64
         ensures { result ≡ min (slot_end_of (timing_of self.now) slot) largest }
     {
-        slot.saturating_mul(self.length).saturating_add(self.length)
+        self.time_into(slot, self.length)
     }
 
     /// What a clock shows when a round ends, and it is to be set.

@@ -1,5 +1,6 @@
 //! Examples of the rules and the edges of every refusal. The expected values are worked out by hand.
 use crate::config::{MAX_LENGTH, Unfit};
+use crate::heard::Heard;
 use crate::limits::Schedule;
 use crate::listening::{Arrival, Listener, Received, Refusal};
 use clock::Cluster;
@@ -96,11 +97,11 @@ fn codes(rt: HostRuntime) {
         (Unfit::LengthTooShort, 1),
         (Unfit::LengthTooLong, 1),
     ] {
-        assert_eq!(rt; why.code(), Code { number: 6, place });
+        assert_eq!(rt; Code::from(why), Code { number: 6, place });
     }
     for why in [Refusal::EndsBeforeItBegan, Refusal::Earlier] {
         assert_eq!(rt;
-            why.code(),
+            Code::from(why),
             Code {
                 number: 12,
                 place: 0,
@@ -162,6 +163,21 @@ fn times(rt: HostRuntime) -> Result<(), Fail> {
         assert_eq!(rt; schedule.round_end(round), ends);
     }
     Ok(())
+}
+
+#[test]
+fn heard_of_several(rt: HostRuntime) {
+    let nothing: Heard<u8> = Heard::Nothing;
+    let once = nothing.with(5);
+    for (heard, with_six, only) in [
+        (nothing, Heard::Once(6), None),
+        (once, Heard::Several, Some(5)),
+        (once.with(5), Heard::Several, None),
+        (once.with(5).with(7), Heard::Several, None),
+    ] {
+        assert_eq!(rt; heard.with(6), with_six);
+        assert_eq!(rt; heard.only(), only);
+    }
 }
 
 // An arrival on a node's wire.

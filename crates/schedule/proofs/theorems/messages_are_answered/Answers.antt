@@ -1,4 +1,4 @@
-use Rattle.schedule.proofs.Heard.{hears_the_message}
+use Rattle.schedule.proofs.Answered.{hears_the_message}
 use Rattle.schedule.proofs.theorems.messages_are_answered.Goals as goal
 
 pub returns : goal.returns

@@ -1,19 +1,13 @@
-use Rattle.std.proofs.Common.{◌∙◌}
-use Rattle.schedule.proofs.Arrivals.{to_come_first, to_come_next, to_come_last}
+use Rattle.std.proofs.Common.{subst, ◌∙◌, rules}
+use Rattle.std.proofs.lemmas.Fn.{fold_over, slice_gives, fronts}
+use Rattle.schedule.specs.Listening.{Tells, no_more}
+use Rattle.schedule.proofs.Arrivals.{hears_all, tells_push}
 use Rattle.schedule.proofs.limits.Schedule.hear.Goals as goal
-
-pub loop-arrival-init : goal.loop-arrival-init
-loop-arrival-init g c =
-    to_come_first c.args.self.now c.args.slot c.args.time c.args.arrivals.now c.new-listener.result c.new-listener.ensures
-
-pub loop-arrival-preserved : goal.loop-arrival-preserved
-loop-arrival-preserved g c =
-    to_come_next c.args.self.now c.args.slot _ c.loop-arrival.listener c.tell-listener.result.listener c.arrival-item.result
-    c.args.arrivals.now c.loop-arrival.arrival-index c.loop-arrival-test.true c.arrival-item.is c.tell-listener.ensures.listener
-    c.loop-arrival.invariant
 
 pub returns : goal.returns
 returns g c =
-    c.heard.ensures
-    ∙ to_come_last c.args.self.now c.args.slot _ c.loop-arrival.listener c.args.arrivals.now c.loop-arrival.arrival-index
-    c.loop-arrival-test.false c.loop-arrival.invariant
+    let told : Tells c.new.result c.args.arrivals.now c.fold-told.result =
+    subst (λ xs. Tells c.new.result xs c.fold-told.result) c.iter.ensures.rest
+    (fold_over fronts (λ y. y.now) _ (λ ys l. Tells c.new.result ys l) _ (λ ys l a l' f' j k. (tells_push _ _ _ _ _ j (search rules), search rules))
+    _ _ _ _ (slice_gives c.iter.result) (no_more _) c.fold-told.ensures.ran) in
+    c.heard.ensures ∙ hears_all _ _ _ _ _ _ c.new.ensures told

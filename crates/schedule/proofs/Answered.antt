@@ -1,6 +1,6 @@
 -- The message of a node that is all that comes on its wire: it is what a listener answers. Assumes nothing.
 use Rattle.std.proofs.Common.{◌≡◌, ℕ, ◌≤◌, true, false, List, [], ◌∷◌, ◌++◌, refl, ap, ◌∙◌, inl, inr, arith}
-use Rattle.std.proofs.lemmas.Bool.{cases_Bool, ne_eqb}
+use Rattle.std.proofs.lemmas.Bool.{cases_Bool}
 use Rattle.std.proofs.lemmas.Bool.Decides.{nat_tests}
 use Rattle.std.specs.List.{AllByRecursion}
 use Rattle.schedule.specs.Config.{timing_of}
@@ -16,7 +16,7 @@ use Rattle.schedule.proofs.Passing.{hears_whole}
 
 module _ {M : Type 0} (s : Schedule) (slot : ℕ) where
   not_whole : (x : Arrival M) → (x.wire ≡ owner_of (timing_of s) slot → ⊥) → came_whole s slot x ≡ false
-  not_whole x other = let e = ne_eqb x.wire (owner_of (timing_of s) slot) other in rw e
+  not_whole x other = grind (arith, nat_tests)
 
   none_whole : (last : ℕ) (xs : List (Arrival M)) → AllByRecursion (λ x. x.wire ≡ owner_of (timing_of s) slot → ⊥) xs → whole_ones s slot last xs ≡ []
   none_whole last [] others = refl
