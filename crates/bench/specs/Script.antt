@@ -1,8 +1,9 @@
 -- What the lines of a script make of a cluster, and why one does not fit. Assumes nothing: these are definitions.
-use Rattle.std.specs.Prelude.{◌≡◌, ℕ, Bool, true, false, not, List, [], ◌∷◌, ◌++◌, ℤ, is_some, Some, None, ◌==◌, nat_lt, slice_index_or, slice_set, unsigned_abs}
-use Rattle.std.specs.List.{prefix_len}
-use Rattle.midpoint.specs.Refusals.{Row}
+use Rattle.std.specs.Prelude.{◌≡◌, ℕ, Bool, not, List, [], ◌∷◌, ◌++◌, ℤ, is_some, is_none, Some, None, ◌==◌, nat_lt, take, slice_index_or, slice_set, unsigned_abs}
+use Rattle.std.specs.List.{position_or_len}
+use Rattle.midpoint.specs.Refusals.{Row, refused_if}
 use Rattle.clock.specs.Config.{error_of}
+use Rattle.clock.specs.declared.limits.Cluster.{Cluster}
 use Rattle.cluster.specs.Rounds.{player, is_bad, heard_of, one_more, with_entry, with_place}
 use Rattle.cluster.specs.declared.clocks.Player.{Player}
 use Rattle.bench.specs.declared.reason.Misfit.{Misfit}
@@ -10,34 +11,34 @@ use Rattle.bench.specs.declared.reason.Misfit.TheVariants.{PastTheCluster, Named
 use Rattle.bench.specs.declared.script.Naming.{Naming}
 use Rattle.bench.specs.declared.script.Running.{Running}
 
-abbrev pub misfit : Bool → Misfit → Row Misfit
-misfit applies why = record { applies = applies; refusal = why }
+-- a node that the cluster does not have
+abbrev pub past : Cluster → ℕ → Row Misfit
+past cluster node = refused_if (not (nat_lt node cluster.nodes)) (PastTheCluster node)
 
--- Naming: each node is named once. The first that is not named is the number of those before it that are.
+-- Naming: each node is named once. Where none of the cluster is left, the first that is not named is the number of its nodes.
 abbrev pub unnameable : Naming → ℕ → List (Row Misfit)
-unnameable s node = misfit (not (nat_lt node s.cluster.nodes)) (PastTheCluster node) ∷ misfit (slice_index_or s.named node false) (NamedTwice node) ∷ []
+unnameable s node = past s.cluster node ∷ refused_if (is_some (slice_index_or s.players node None)) (NamedTwice node) ∷ []
 
 pub record Named (s : Naming) (node : ℕ) (player : Player) (t : Naming) : Type 0 where
-  pub named : t.named ≡ slice_set s.named node true
-  pub players : t.players ≡ slice_set s.players node player
+  pub players : t.players ≡ slice_set s.players node (Some player)
   pub cluster : t.cluster ≡ s.cluster
   pub timing : t.timing ≡ s.timing
 
 abbrev pub first_unnamed : Naming → ℕ
-first_unnamed s = prefix_len (λ b. b) s.named
+first_unnamed s = position_or_len is_none (take s.cluster.nodes s.players)
 
 abbrev pub incomplete : Naming → List (Row Misfit)
-incomplete s = misfit (nat_lt (first_unnamed s) s.cluster.nodes) (NotNamed (first_unnamed s)) ∷ []
+incomplete s = refused_if (nat_lt (first_unnamed s) s.cluster.nodes) (NotNamed (first_unnamed s)) ∷ []
 
--- Rounds: a line that names a bad node, or a good one, names one of the cluster.
-abbrev pub past : Running → ℕ → Row Misfit
-past s node = misfit (not (nat_lt node s.clocks.cluster.nodes)) (PastTheCluster node)
+-- Rounds: a line that names a bad node, or a good one, names one of the cluster, and then one that passes the test for its kind.
+abbrev pub unless_passed : Running → ℕ → Bool → Misfit → List (Row Misfit)
+unless_passed s node passed why = past s.clocks.cluster node ∷ refused_if (not passed) why ∷ []
 
 abbrev pub not_bad : Running → ℕ → List (Row Misfit)
-not_bad s node = past s node ∷ misfit (not (is_bad (player s.clocks node))) (NotBad node) ∷ []
+not_bad s node = unless_passed s node (is_bad (player s.clocks node)) (NotBad node)
 
 abbrev pub not_good : Running → ℕ → List (Row Misfit)
-not_good s node = past s node ∷ misfit (is_bad (player s.clocks node)) (NotGood node) ∷ []
+not_good s node = unless_passed s node (not (is_bad (player s.clocks node))) (NotGood node)
 
 -- A message is of a bad node to a good one.
 abbrev pub unsayable : Running → ℕ → ℕ → List (Row Misfit)
@@ -53,9 +54,9 @@ pub record Said (s : Running) (from to ahead : ℕ) (t : Running) : Type 0 where
 abbrev pub no_jitter : Running → ℕ → ℕ → ℤ → List (Row Misfit)
 no_jitter s node of by =
     not_good s node ++ not_good s of ++ (
-    misfit (node == of) (OwnClock node)
-    ∷ misfit (nat_lt (error_of s.clocks.cluster) (unsigned_abs by)) (JitterPast (error_of s.clocks.cluster))
-    ∷ misfit (is_some (slice_index_or (slice_index_or s.round.jitter node []) of None)) (JitterTwice node of)
+    refused_if (node == of) (OwnClock node)
+    ∷ refused_if (nat_lt (error_of s.clocks.cluster) (unsigned_abs by)) (JitterPast (error_of s.clocks.cluster))
+    ∷ refused_if (is_some (slice_index_or (slice_index_or s.round.jitter node []) of None)) (JitterTwice node of)
     ∷ []
     )
 
@@ -69,8 +70,8 @@ pub record Jittered (s : Running) (node of : ℕ) (by : ℤ) (t : Running) : Typ
 abbrev pub no_drift : Running → ℕ → ℤ → List (Row Misfit)
 no_drift s node by =
     not_good s node ++ (
-    misfit (nat_lt s.clocks.cluster.drift (unsigned_abs by)) (DriftPast s.clocks.cluster.drift)
-    ∷ misfit (is_some (slice_index_or s.round.drift node None)) (DriftTwice node)
+    refused_if (nat_lt s.clocks.cluster.drift (unsigned_abs by)) (DriftPast s.clocks.cluster.drift)
+    ∷ refused_if (is_some (slice_index_or s.round.drift node None)) (DriftTwice node)
     ∷ []
     )
 

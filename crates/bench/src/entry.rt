@@ -67,10 +67,7 @@ pub(crate) fn parse(line: &str) -> Result<Option<Entry>, Malformed<'_>> {
 }
 
 fn without_comment(line: &str) -> &str {
-    match line.split_once('#') {
-        Some((before, _)) => before,
-        None => line,
-    }
+    line.split_once('#').map_or(line, |(before, _)| before)
 }
 
 fn cluster<'a>(words: &mut SplitWhitespace<'a>) -> Result<Entry, Malformed<'a>> {
@@ -146,11 +143,7 @@ fn four<'a>(
     words: &mut SplitWhitespace<'a>,
     names: [&'static str; 4],
 ) -> Result<[u64; 4], Malformed<'a>> {
-    let mut numbers = [0; 4];
-    for i in 0..4 {
-        numbers[i] = named(words, names[i])?;
-    }
-    Ok(numbers)
+    names.try_map(|name| named(words, name))
 }
 
 fn natural<'a>(words: &mut SplitWhitespace<'a>, after: &'static str) -> Result<u64, Malformed<'a>> {
@@ -177,12 +170,6 @@ fn number<'a, N: FromStr>(
 where
     N::Err: Drop,
 {
-    let missing = Malformed::NotANumber { after, range };
-    let Some(word) = word else {
-        return Err(missing);
-    };
-    match word.parse::<N>() {
-        Ok(n) => Ok(n),
-        Err(_) => Err(missing),
-    }
+    word.and_then(|word| word.parse().ok())
+        .ok_or(Malformed::NotANumber { after, range })
 }

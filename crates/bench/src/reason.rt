@@ -2,34 +2,46 @@
 use cluster::Unfit;
 use std::alloc::AllocError;
 use std::fmt;
+use thiserror::Error;
 
 /// Why a line cannot be read.
-#[derive(Clone, Copy)]
+#[derive(Clone, Copy, Debug, Error)]
 pub(crate) enum Malformed<'a> {
     /// No line begins with this word.
+    #[error("unknown word '{word}'")]
     UnknownWord { word: &'a str },
     /// This word has to stand next.
+    #[error("expected '{word}'")]
     Missing { word: &'static str },
     /// A number has to stand behind this word.
+    #[error("expected {range} after '{after}'")]
     NotANumber { after: &'static str, range: Range },
     /// The line goes on behind its end.
+    #[error("'{word}' is one word too many")]
     TooLong { word: &'a str },
 }
 
 /// The numbers that fit at a place.
-#[derive(Clone, Copy)]
+#[derive(Clone, Copy, Debug, Error)]
 pub(crate) enum Range {
+    #[error("a whole number below 2^64")]
     Natural64,
+    #[error("a whole number below 2^32")]
     Natural32,
+    #[error("a whole number from -2^63 to 2^63 - 1")]
     Signed64,
 }
 
 /// The lines that fit at a place.
-#[derive(Clone, Copy)]
+#[derive(Clone, Copy, Debug, Error)]
 pub(crate) enum Lines {
+    #[error("'cluster'")]
     Cluster,
+    #[error("'timing'")]
     Timing,
+    #[error("'good', 'bad' or 'round'")]
     Nodes,
+    #[error("'round', 'says', 'jitter' or 'drift'")]
     Rounds,
 }
 
@@ -69,11 +81,29 @@ impl From<clock::Unfit> for Misfit {
     }
 }
 
-/// Why a script has no output: a line that cannot be read or does not fit, or want of memory.
+/// Why a line is turned away.
+#[derive(Clone, Copy)]
+pub(crate) enum Reason<'a> {
+    Malformed(Malformed<'a>),
+    Misfit(Misfit),
+}
+
+impl<'a> From<Malformed<'a>> for Reason<'a> {
+    fn from(malformed: Malformed<'a>) -> Self {
+        Reason::Malformed(malformed)
+    }
+}
+
+impl From<Misfit> for Reason<'_> {
+    fn from(misfit: Misfit) -> Self {
+        Reason::Misfit(misfit)
+    }
+}
+
+/// Why a script has no output: a line that is turned away, or want of memory.
 #[derive(Clone, Copy)]
 pub(crate) enum Fault<'a> {
-    Unreadable { line: usize, reason: Malformed<'a> },
-    Unfitting { line: usize, reason: Misfit },
+    Line { line: usize, reason: Reason<'a> },
     Memory,
 }
 
@@ -86,41 +116,17 @@ impl From<AllocError> for Fault<'_> {
 impl fmt::Display for Fault<'_> {
     fn fmt<W: fmt::Write>(&self, f: &mut fmt::Formatter<W>) -> fmt::Result {
         match self {
-            Fault::Unreadable { line, reason } => write!(f, "line {line}: {reason}"),
-            Fault::Unfitting { line, reason } => write!(f, "line {line}: {reason}"),
+            Fault::Line { line, reason } => write!(f, "line {line}: {reason}"),
             Fault::Memory => f.write_str("out of memory"),
         }
     }
 }
 
-impl fmt::Display for Range {
-    fn fmt<W: fmt::Write>(&self, f: &mut fmt::Formatter<W>) -> fmt::Result {
-        f.write_str(match self {
-            Range::Natural64 => "a whole number below 2^64",
-            Range::Natural32 => "a whole number below 2^32",
-            Range::Signed64 => "a whole number from -2^63 to 2^63 - 1",
-        })
-    }
-}
-
-impl fmt::Display for Lines {
-    fn fmt<W: fmt::Write>(&self, f: &mut fmt::Formatter<W>) -> fmt::Result {
-        f.write_str(match self {
-            Lines::Cluster => "'cluster'",
-            Lines::Timing => "'timing'",
-            Lines::Nodes => "'good', 'bad' or 'round'",
-            Lines::Rounds => "'round', 'says', 'jitter' or 'drift'",
-        })
-    }
-}
-
-impl fmt::Display for Malformed<'_> {
+impl fmt::Display for Reason<'_> {
     fn fmt<W: fmt::Write>(&self, f: &mut fmt::Formatter<W>) -> fmt::Result {
         match self {
-            Malformed::UnknownWord { word } => write!(f, "unknown word '{word}'"),
-            Malformed::Missing { word } => write!(f, "expected '{word}'"),
-            Malformed::NotANumber { after, range } => write!(f, "expected {range} after '{after}'"),
-            Malformed::TooLong { word } => write!(f, "'{word}' is one word too many"),
+            Reason::Malformed(malformed) => write!(f, "{malformed}"),
+            Reason::Misfit(misfit) => write!(f, "{misfit}"),
         }
     }
 }

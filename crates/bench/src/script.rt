@@ -1,15 +1,19 @@
 //! A script, line after line: first the cluster, its timing and its nodes, then round after round.
-ghost use Rattle.std.specs.Prelude.{◌≡◌, ◌<◌, ◌≤◌, MatchResult};
+ghost use Rattle.std.specs.Prelude.{◌≡◌, ◌<◌, Bool, [], ◌∷◌, map, take, is_none};
+ghost use Rattle.std.specs.List.{position};
+ghost use Rattle.std.specs.Option.{unwrap_or};
 ghost use Rattle.midpoint.specs.Refusals.{ByRows};
-ghost use Rattle.bench.specs.Script.{unnameable, Named, incomplete, not_good, not_bad, unsayable, Said, no_jitter, Jittered, no_drift, Drifted};
+ghost use Rattle.cluster.specs.Rounds.{player};
+ghost use Rattle.cluster.specs.declared.clocks.Player.TheVariants.{Bad};
+ghost use Rattle.bench.specs.Script.{past, unless_passed, unnameable, Named, incomplete, not_good, not_bad, unsayable, Said, no_jitter, Jittered, no_drift, Drifted};
 
 use crate::entry;
 use crate::entry::Entry;
-use crate::reason::{Fault, Lines, Misfit};
+use crate::reason::{Fault, Lines, Misfit, Reason};
 use clock::{Clock, Cluster};
 use cluster::{Clocks, Outcome, Played, Player, Round, Timing};
-use midpoint::MAX_NODES;
-use std::alloc::Global;
+use midpoint::{Code, MAX_NODES};
+use std::alloc::{AllocError, Global};
 use std::fmt::Write;
 
 /// How far a script has come.
@@ -26,8 +30,7 @@ enum Stage {
 struct Naming {
     cluster: Cluster,
     timing: Timing,
-    named: [bool; MAX_NODES],
-    players: [Player; MAX_NODES],
+    players: [Option<Player>; MAX_NODES],
 }
 
 /// A cluster that runs, and what the script has said so far of the round under way.
@@ -48,31 +51,31 @@ struct Step {
 pub(crate) fn output<'a>(heap: Global, text: &'a str) -> Result<String, Fault<'a>> {
     let mut out = String::new(heap);
     let mut stage = Stage::Start;
-    let mut line = 1usize;
-    for words in text.lines() {
-        match entry::parse(words) {
-            Err(reason) => return Err(Fault::Unreadable { line, reason }),
-            Ok(None) => {}
-            Ok(Some(entry)) => match stage.take(entry) {
-                Err(reason) => return Err(Fault::Unfitting { line, reason }),
-                Ok(step) => {
-                    stage = step.stage;
-                    show(&mut out, step.played)?;
-                }
-            },
-        }
-        line = line.saturating_add(1);
+    for (index, words) in text.lines().enumerate() {
+        let line = index + 1;
+        let step = stage
+            .read(words)
+            .map_err(|reason| Fault::Line { line, reason })?;
+        stage = step.stage;
+        show(&mut out, step.played)?;
     }
-    match stage.end() {
-        Err(reason) => Err(Fault::Unfitting { line, reason }),
-        Ok(played) => {
-            show(&mut out, played)?;
-            Ok(out)
-        }
-    }
+    let played = stage.end().map_err(|misfit| Fault::Line {
+        line: text.lines().count() + 1,
+        reason: Reason::from(misfit),
+    })?;
+    show(&mut out, played)?;
+    Ok(out)
 }
 
 impl Stage {
+    // A line with nothing but a comment on it changes nothing.
+    fn read(self, words: &str) -> Result<Step, Reason<'_>> {
+        match entry::parse(words)? {
+            Some(entry) => Ok(self.take(entry)?),
+            None => Ok(goes_on(self)),
+        }
+    }
+
     fn take(self, entry: Entry) -> Result<Step, Misfit> {
         match self {
             Stage::Start => Ok(goes_on(Stage::Configured(configured(entry)?))),
@@ -130,14 +133,13 @@ fn timed(cluster: Cluster, entry: Entry) -> Result<Naming, Misfit> {
     Ok(Naming {
         cluster,
         timing,
-        named: [false; MAX_NODES],
-        players: [Player::Bad; MAX_NODES],
+        players: [None; MAX_NODES],
     })
 }
 
 // The index of a node of the cluster.
 fn index(cluster: &Cluster, node: u64) -> Result<usize, Misfit>
-    ensures { MatchResult result (λ i. (i ≡ node) × (i < cluster.now.nodes)) (λ e. (e ≡ Misfit.PastTheCluster node) × (cluster.now.nodes ≤ node)) }
+    ensures { ByRows (past cluster.now node ∷ []) (λ e. e) (λ i. (i ≡ node) × (i < cluster.now.nodes)) result }
 {
     if node < cluster.nodes() {
         Ok(node as usize)
@@ -150,21 +152,18 @@ impl Naming {
     // At the end of the first round common time is 0, so a clock shows there how far it is ahead.
     fn take(self, entry: Entry) -> Result<Stage, Misfit> {
         match entry {
-            Entry::Good { node, ahead } => Ok(Stage::Naming(self.name(
-                node,
-                Player::Good {
+            Entry::Good { node, ahead } => {
+                let player = Player::Good {
                     clock: Clock::new(),
                     time: ahead,
-                },
-            )?)),
+                };
+                Ok(Stage::Naming(self.name(node, player)?))
+            }
             Entry::Bad { node } => Ok(Stage::Naming(self.name(node, Player::Bad)?)),
             Entry::Round => {
                 self.complete()?;
-                let clocks = Clocks::new(self.cluster, self.timing, self.players);
-                Ok(Stage::Running(Running {
-                    clocks,
-                    round: Round::new(),
-                }))
+                let clocks = Clocks::new(self.cluster, self.timing, self.all_players());
+                Ok(Stage::Running(Running::new(clocks)))
             }
             _ => Err(Misfit::Expected(Lines::Nodes)),
         }
@@ -175,11 +174,10 @@ impl Naming {
         ensures { ByRows (unnameable self node) (λ e. e) (Named self node player) result }
     {
         let i = index(&self.cluster, node)?;
-        if self.named[i] {
+        if self.players[i].is_some() {
             return Err(Misfit::NamedTwice { node });
         }
-        self.named[i] = true;
-        self.players[i] = player;
+        self.players[i] = Some(player);
         Ok(self)
     }
 
@@ -187,38 +185,56 @@ impl Naming {
     fn complete(&self) -> Result<(), Misfit>
         ensures { ByRows (incomplete self.now) (λ e. e) (λ _. Unit {0}) result }
     {
-        for node in 0..self.cluster.nodes() {
-            if !self.named[node as usize] {
-                return Err(Misfit::NotNamed { node });
-            }
+        match self.first_unnamed() {
+            Some(node) => Err(Misfit::NotNamed { node: node as u64 }),
+            None => Ok(()),
         }
-        Ok(())
+    }
+
+    // The first node of the cluster that is not named.
+    fn first_unnamed(&self) -> Option<usize>
+        ensures { result ≡ position is_none (take self.now.cluster.nodes self.now.players) }
+    {
+        let nodes = self.cluster.nodes() as usize;
+        self.players[..nodes]
+            .iter()
+            .position(|player| player.is_none())
+    }
+
+    // The nodes as they are named. What is not named, as past the cluster, is bad.
+    fn all_players(&self) -> [Player; MAX_NODES]
+        ensures { result ≡ map (λ named. unwrap_or named Bad) self.now.players }
+    {
+        self.players.map(|named| named.unwrap_or(Player::Bad))
     }
 }
 
 impl Running {
+    // Nothing has been said yet of the round under way.
+    fn new(clocks: Clocks) -> Running
+        ensures { result.clocks ≡ clocks }
+    {
+        Running {
+            clocks,
+            round: Round::new(),
+        }
+    }
+
     fn take(self, entry: Entry) -> Result<Step, Misfit> {
-        match entry {
+        let running = match entry {
             Entry::Round => {
                 let played = self.clocks.play(&self.round);
-                let next = Running {
-                    clocks: played.clocks,
-                    round: Round::new(),
-                };
-                Ok(Step {
-                    stage: Stage::Running(next),
+                return Ok(Step {
+                    stage: Stage::Running(Running::new(played.clocks)),
                     played: Some(played),
-                })
+                });
             }
-            Entry::Says { from, to, ahead } => Ok(goes_on(Stage::Running(self.says(
-                from, to, ahead,
-            )?))),
-            Entry::Jitter { node, of, by } => Ok(goes_on(Stage::Running(self.jitter(
-                node, of, by,
-            )?))),
-            Entry::Drift { node, by } => Ok(goes_on(Stage::Running(self.drift(node, by)?))),
-            _ => Err(Misfit::Expected(Lines::Rounds)),
-        }
+            Entry::Says { from, to, ahead } => self.says(from, to, ahead)?,
+            Entry::Jitter { node, of, by } => self.jitter(node, of, by)?,
+            Entry::Drift { node, by } => self.drift(node, by)?,
+            _ => return Err(Misfit::Expected(Lines::Rounds)),
+        };
+        Ok(goes_on(Stage::Running(running)))
     }
 
     fn says(mut self, from: u64, to: u64, ahead: u64) -> Result<Running, Misfit>
@@ -268,60 +284,71 @@ impl Running {
     fn good(&self, node: u64) -> Result<usize, Misfit>
         ensures { ByRows (not_good self.now node) (λ e. e) (λ i. (i ≡ node) × (i < 16)) result }
     {
-        let i = index(&self.clocks.cluster, node)?;
-        let player = self.clocks.players[i];
-        match player {
-            Player::Good { .. } => Ok(i),
-            Player::Bad => Err(Misfit::NotGood { node }),
-        }
+        self.index_where(
+            node,
+            |player| matches!(player, Player::Good { .. }),
+            Misfit::NotGood { node },
+        )
     }
 
     // The index of a bad node.
     fn bad(&self, node: u64) -> Result<usize, Misfit>
         ensures { ByRows (not_bad self.now node) (λ e. e) (λ i. (i ≡ node) × (i < 16)) result }
     {
+        self.index_where(
+            node,
+            |player| matches!(player, Player::Bad),
+            Misfit::NotBad { node },
+        )
+    }
+
+    // The index of a node that passes a test, and the misfit of one that does not.
+    fn index_where<F: FnOnce(Player) -> bool>(
+        &self,
+        node: u64,
+        passes: F,
+        misfit: Misfit,
+    ) -> Result<usize, Misfit>
+        requires { F.IsAlwaysCallable passes }
+        ensures { (passed : Bool) × (node < self.now.clocks.cluster.nodes → F.post passes (player self.now.clocks node) passed) × ByRows (unless_passed self.now node passed misfit) (λ e. e) (λ i. (i ≡ node) × (i < 16)) result }
+    {
         let i = index(&self.clocks.cluster, node)?;
-        let player = self.clocks.players[i];
-        match player {
-            Player::Bad => Ok(i),
-            Player::Good { .. } => Err(Misfit::NotBad { node }),
+        if passes(self.clocks.players[i]) {
+            Ok(i)
+        } else {
+            Err(misfit)
         }
     }
 }
 
 // The lines of a round that has ended: the settings that were turned away, then the good clocks.
-fn show<'a>(out: &mut String, played: Option<Played>) -> Result<(), Fault<'a>> {
+fn show(out: &mut String, played: Option<Played>) -> Result<(), AllocError> {
     let Some(played) = played else {
         return Ok(());
     };
     let nodes = played.clocks.cluster.nodes() as usize;
-    for node in 0..nodes {
-        show_refusal(out, node, played.outcomes[node])?;
+    let outcomes = &played.outcomes[..nodes];
+    for (node, outcome) in outcomes.iter().enumerate() {
+        show_refusal(out, node, *outcome)?;
     }
     write!(out, "clocks")?;
-    for node in 0..nodes {
-        show_clock(out, &played.clocks, played.outcomes[node])?;
+    for outcome in outcomes {
+        show_clock(out, &played.clocks, *outcome)?;
     }
-    writeln!(out)?;
-    Ok(())
+    writeln!(out)
 }
 
-fn show_refusal<'a>(out: &mut String, node: usize, outcome: Outcome) -> Result<(), Fault<'a>> {
+fn show_refusal(out: &mut String, node: usize, outcome: Outcome) -> Result<(), AllocError> {
     if let Outcome::Kept { code, .. } = outcome {
-        let number = code.number;
-        let place = code.place;
+        let Code { number, place } = code;
         writeln!(out, "refused {number} at {place}: {node}")?;
     }
     Ok(())
 }
 
-fn show_clock<'a>(out: &mut String, clocks: &Clocks, outcome: Outcome) -> Result<(), Fault<'a>> {
-    match outcome {
-        Outcome::Idle => Ok(()),
-        Outcome::SetTo { time, .. } | Outcome::Kept { time, .. } => {
-            let ahead = clocks.ahead(time);
-            write!(out, " {ahead}")?;
-            Ok(())
-        }
+fn show_clock(out: &mut String, clocks: &Clocks, outcome: Outcome) -> Result<(), AllocError> {
+    if let Outcome::SetTo { time, .. } | Outcome::Kept { time, .. } = outcome {
+        write!(out, " {}", clocks.ahead(time))?;
     }
+    Ok(())
 }

@@ -18,17 +18,12 @@ round # the line after this one is the ninth
 
 // What is said of a script is this, whether it is taken or not.
 fn says(rt: &impl Abort, heap: Global, text: &str, expected: &str) -> Result<(), Fail> {
-    match output(heap, text) {
-        Ok(out) => {
-            assert_eq!(rt; out.as_str(), expected, "{}", text);
-            Ok(())
-        },
-        Err(fault) => {
-            let message = format!(in heap; "{fault}")?;
-            assert_eq!(rt; message.as_str(), expected, "{}", text);
-            Ok(())
-        }
-    }
+    let said = match output(heap, text) {
+        Ok(out) => out,
+        Err(fault) => format!(in heap; "{fault}")?,
+    };
+    assert_eq!(rt; said.as_str(), expected, "{}", text);
+    Ok(())
 }
 
 // Of each line behind the eight lines of the head, in its place.
