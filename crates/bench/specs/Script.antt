@@ -4,7 +4,8 @@ use Rattle.std.specs.List.{position_or_len}
 use Rattle.midpoint.specs.Refusals.{Row, refused_if}
 use Rattle.clock.specs.Config.{error_of}
 use Rattle.clock.specs.declared.limits.Cluster.{Cluster}
-use Rattle.cluster.specs.Rounds.{player, is_bad, heard_of, one_more, with_entry, with_place}
+use Rattle.cluster.specs.Rounds.{player, is_bad, heard_of, with_entry, with_place}
+use Rattle.schedule.specs.Heard.{with_one}
 use Rattle.cluster.specs.declared.clocks.Player.{Player}
 use Rattle.bench.specs.declared.reason.Misfit.{Misfit}
 use Rattle.bench.specs.declared.reason.Misfit.TheVariants.{PastTheCluster, NamedTwice, NotNamed, NotGood, NotBad, OwnClock, JitterPast, DriftPast, JitterTwice, DriftTwice}
@@ -45,7 +46,7 @@ abbrev pub unsayable : Running → ℕ → ℕ → List (Row Misfit)
 unsayable s from to = not_bad s from ++ not_good s to
 
 pub record Said (s : Running) (from to ahead : ℕ) (t : Running) : Type 0 where
-  pub heard : t.round.heard ≡ with_entry s.round.heard to from (one_more (heard_of s.round to from) ahead)
+  pub heard : t.round.heard ≡ with_entry s.round.heard to from (with_one (heard_of s.round to from) ahead)
   pub jitter : t.round.jitter ≡ s.round.jitter
   pub drift : t.round.drift ≡ s.round.drift
   pub clocks : t.clocks ≡ s.clocks

@@ -77,7 +77,7 @@ impl From<Unfit> for Misfit {
 
 impl From<clock::Unfit> for Misfit {
     fn from(unfit: clock::Unfit) -> Self {
-        Misfit::Refused(Unfit::Numbers(unfit))
+        Misfit::Refused(Unfit::from(unfit))
     }
 }
 

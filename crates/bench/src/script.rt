@@ -11,7 +11,7 @@ use crate::entry;
 use crate::entry::Entry;
 use crate::reason::{Fault, Lines, Misfit, Reason};
 use clock::{Clock, Cluster};
-use cluster::{Clocks, Outcome, Played, Player, Round, Timing};
+use cluster::{Clocks, GoodNode, Outcome, Played, Player, Round, Timing};
 use midpoint::{Code, MAX_NODES};
 use std::alloc::{AllocError, Global};
 use std::fmt::Write;
@@ -153,11 +153,11 @@ impl Naming {
     fn take(self, entry: Entry) -> Result<Stage, Misfit> {
         match entry {
             Entry::Good { node, ahead } => {
-                let player = Player::Good {
+                let good = GoodNode {
                     clock: Clock::new(),
                     time: ahead,
                 };
-                Ok(Stage::Naming(self.name(node, player)?))
+                Ok(Stage::Naming(self.name(node, Player::Good(good))?))
             }
             Entry::Bad { node } => Ok(Stage::Naming(self.name(node, Player::Bad)?)),
             Entry::Round => {
@@ -286,7 +286,7 @@ impl Running {
     {
         self.index_where(
             node,
-            |player| matches!(player, Player::Good { .. }),
+            |player| matches!(player, Player::Good(_)),
             Misfit::NotGood { node },
         )
     }
@@ -339,16 +339,16 @@ fn show(out: &mut String, played: Option<Played>) -> Result<(), AllocError> {
 }
 
 fn show_refusal(out: &mut String, node: usize, outcome: Outcome) -> Result<(), AllocError> {
-    if let Outcome::Kept { code, .. } = outcome {
-        let Code { number, place } = code;
+    if let Outcome::Kept(_, refusal) = outcome {
+        let Code { number, place } = Code::from(refusal);
         writeln!(out, "refused {number} at {place}: {node}")?;
     }
     Ok(())
 }
 
 fn show_clock(out: &mut String, clocks: &Clocks, outcome: Outcome) -> Result<(), AllocError> {
-    if let Outcome::SetTo { time, .. } | Outcome::Kept { time, .. } = outcome {
-        write!(out, " {}", clocks.ahead(time))?;
+    if let Outcome::SetTo(good) | Outcome::Kept(good, _) = outcome {
+        write!(out, " {}", clocks.ahead(good.time))?;
     }
     Ok(())
 }
