@@ -22,7 +22,7 @@ pub enum Unfit {
     Jitter,
 }
 
-/// Its number and place in the fixed list of refusals.
+/// The number and place of a refusal in the fixed list.
 impl From<Unfit> for Code {
     ghost from_gives = { λ unfit code. code ≡ code_of unfit };
 

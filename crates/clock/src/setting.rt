@@ -18,7 +18,7 @@ pub enum Refusal {
     Earlier,
 }
 
-/// Its number and place in the fixed list of refusals.
+/// The number and place of a refusal in the fixed list.
 impl From<Refusal> for Code {
     ghost from_gives = { λ refusal code. code ≡ code_of refusal };
 

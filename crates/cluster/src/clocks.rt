@@ -54,7 +54,7 @@ impl From<midpoint::Refusal> for Refusal {
     }
 }
 
-/// Its number and place in the fixed list of refusals.
+/// The number and place of a refusal in the fixed list.
 impl From<Refusal> for Code {
     ghost from_gives = { λ refusal code. code ≡ code_of refusal };
 

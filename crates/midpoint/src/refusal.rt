@@ -21,7 +21,7 @@ pub enum Refusal {
     ReadingTooLarge { index: usize },
 }
 
-/// Its number and place in the fixed list.
+/// The number and place of a refusal in the fixed list.
 impl From<Refusal> for Code {
     ghost from_gives = { λ refusal code. code ≡ code_of refusal };
 
