@@ -46,26 +46,38 @@ pub(crate) enum Lines {
 }
 
 /// Why a line that can be read does not fit where it stands.
-#[derive(Clone, Copy)]
+#[derive(Clone, Copy, Debug, Error)]
 pub(crate) enum Misfit {
     /// Another line has to stand here.
+    #[error("expected {0}")]
     Expected(Lines),
     /// The configuration is turned away.
+    #[error("{0}")]
     Refused(Unfit),
+    #[error("node {node} is past the cluster")]
     PastTheCluster { node: u64 },
+    #[error("node {node} is named twice")]
     NamedTwice { node: u64 },
+    #[error("node {node} is named neither good nor bad")]
     NotNamed { node: u64 },
     /// A good node has to stand here.
+    #[error("node {node} is bad, and a good one has to stand here")]
     NotGood { node: u64 },
     /// A bad node has to stand here.
+    #[error("node {node} is good, and a bad one has to stand here")]
     NotBad { node: u64 },
     /// A node reads its own clock as it is.
+    #[error("node {node} reads its own clock as it is")]
     OwnClock { node: u64 },
     /// A jitter that is past the error.
+    #[error("a jitter is at most the error, {most}, either way")]
     JitterPast { most: u64 },
     /// A drift that is past the cluster's.
+    #[error("a drift is at most {most} either way")]
     DriftPast { most: u64 },
+    #[error("the jitter {node} of {of} stands twice in this round")]
     JitterTwice { node: u64, of: u64 },
+    #[error("the drift {node} stands twice in this round")]
     DriftTwice { node: u64 },
 }
 
@@ -127,37 +139,6 @@ impl fmt::Display for Reason<'_> {
         match self {
             Reason::Malformed(malformed) => write!(f, "{malformed}"),
             Reason::Misfit(misfit) => write!(f, "{misfit}"),
-        }
-    }
-}
-
-impl fmt::Display for Misfit {
-    fn fmt<W: fmt::Write>(&self, f: &mut fmt::Formatter<W>) -> fmt::Result {
-        match self {
-            Misfit::Expected(lines) => write!(f, "expected {lines}"),
-            Misfit::Refused(unfit) => write!(f, "{unfit}"),
-            Misfit::PastTheCluster { node } => write!(f, "node {node} is past the cluster"),
-            Misfit::NamedTwice { node } => write!(f, "node {node} is named twice"),
-            Misfit::NotNamed { node } => write!(f, "node {node} is named neither good nor bad"),
-            Misfit::NotGood { node } => write!(
-                f,
-                "node {node} is bad, and a good one has to stand here"
-            ),
-            Misfit::NotBad { node } => write!(
-                f,
-                "node {node} is good, and a bad one has to stand here"
-            ),
-            Misfit::OwnClock { node } => write!(f, "node {node} reads its own clock as it is"),
-            Misfit::JitterPast { most } => write!(
-                f,
-                "a jitter is at most the error, {most}, either way"
-            ),
-            Misfit::DriftPast { most } => write!(f, "a drift is at most {most} either way"),
-            Misfit::JitterTwice { node, of } => write!(
-                f,
-                "the jitter {node} of {of} stands twice in this round"
-            ),
-            Misfit::DriftTwice { node } => write!(f, "the drift {node} stands twice in this round"),
         }
     }
 }

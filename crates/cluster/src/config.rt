@@ -11,7 +11,7 @@ use schedule::Schedule;
 use std::fmt;
 
 /// Why a configuration is turned away: the first that applies, in this order.
-#[derive(Clone, Copy)]
+#[derive(Clone, Copy, PartialEq, Eq, Debug)]
 pub enum Unfit {
     /// There is no cluster with these numbers.
     Numbers(clock::Unfit),
