@@ -1,7 +1,6 @@
 //! Why a script is turned away.
 use cluster::Unfit;
 use std::alloc::AllocError;
-use std::fmt;
 use thiserror::Error;
 
 /// Why a line cannot be read.
@@ -53,7 +52,7 @@ pub(crate) enum Misfit {
     Expected(Lines),
     /// The configuration is turned away.
     #[error("{0}")]
-    Refused(Unfit),
+    Refused(#[from] Unfit),
     #[error("node {node} is past the cluster")]
     PastTheCluster { node: u64 },
     #[error("node {node} is named twice")]
@@ -81,12 +80,6 @@ pub(crate) enum Misfit {
     DriftTwice { node: u64 },
 }
 
-impl From<Unfit> for Misfit {
-    fn from(unfit: Unfit) -> Self {
-        Misfit::Refused(unfit)
-    }
-}
-
 impl From<clock::Unfit> for Misfit {
     fn from(unfit: clock::Unfit) -> Self {
         Misfit::Refused(Unfit::from(unfit))
@@ -94,51 +87,25 @@ impl From<clock::Unfit> for Misfit {
 }
 
 /// Why a line is turned away.
-#[derive(Clone, Copy)]
+#[derive(Clone, Copy, Debug, Error)]
 pub(crate) enum Reason<'a> {
-    Malformed(Malformed<'a>),
-    Misfit(Misfit),
-}
-
-impl<'a> From<Malformed<'a>> for Reason<'a> {
-    fn from(malformed: Malformed<'a>) -> Self {
-        Reason::Malformed(malformed)
-    }
-}
-
-impl From<Misfit> for Reason<'_> {
-    fn from(misfit: Misfit) -> Self {
-        Reason::Misfit(misfit)
-    }
+    #[error("{0}")]
+    Malformed(#[from] Malformed<'a>),
+    #[error("{0}")]
+    Misfit(#[from] Misfit),
 }
 
 /// Why a script has no output: a line that is turned away, or want of memory.
-#[derive(Clone, Copy)]
+#[derive(Clone, Copy, Debug, Error)]
 pub(crate) enum Fault<'a> {
+    #[error("line {line}: {reason}")]
     Line { line: usize, reason: Reason<'a> },
+    #[error("out of memory")]
     Memory,
 }
 
 impl From<AllocError> for Fault<'_> {
     fn from(_e: AllocError) -> Self {
         Fault::Memory
-    }
-}
-
-impl fmt::Display for Fault<'_> {
-    fn fmt<W: fmt::Write>(&self, f: &mut fmt::Formatter<W>) -> fmt::Result {
-        match self {
-            Fault::Line { line, reason } => write!(f, "line {line}: {reason}"),
-            Fault::Memory => f.write_str("out of memory"),
-        }
-    }
-}
-
-impl fmt::Display for Reason<'_> {
-    fn fmt<W: fmt::Write>(&self, f: &mut fmt::Formatter<W>) -> fmt::Result {
-        match self {
-            Reason::Malformed(malformed) => write!(f, "{malformed}"),
-            Reason::Misfit(misfit) => write!(f, "{misfit}"),
-        }
     }
 }
