@@ -1,5 +1,5 @@
 -- What the lines of a script make of a cluster, and why one does not fit. Assumes nothing: these are definitions.
-use Rattle.std.specs.Prelude.{◌≡◌, ℕ, Bool, not, List, [], ◌∷◌, ◌++◌, ℤ, is_some, is_none, Some, None, ◌==◌, nat_lt, take, slice_index_or, slice_set, unsigned_abs}
+use Rattle.std.specs.Prelude.{◌≡◌, ℕ, Bool, not, List, [], ◌∷◌, ◌++◌, ℤ, is_some, is_none, Some, None, ◌==◌, nat_lt, take, replicate, slice_index_or, slice_set, unsigned_abs}
 use Rattle.std.specs.List.{position_or_len}
 use Rattle.midpoint.specs.Refusals.{Row, refused_if}
 use Rattle.clock.specs.Config.{error_of}
@@ -7,6 +7,8 @@ use Rattle.clock.specs.declared.limits.Cluster.{Cluster}
 use Rattle.cluster.specs.Rounds.{player, is_bad, heard_of, with_entry, with_place}
 use Rattle.schedule.specs.Heard.{with_one}
 use Rattle.cluster.specs.declared.clocks.Player.{Player}
+use Rattle.cluster.specs.declared.round.Heard.TheVariants.{Nothing}
+use Rattle.cluster.specs.declared.round.Round.{Round}
 use Rattle.bench.specs.declared.reason.Misfit.{Misfit}
 use Rattle.bench.specs.declared.reason.Misfit.TheVariants.{PastTheCluster, NamedTwice, NotNamed, NotGood, NotBad, OwnClock, JitterPast, DriftPast, JitterTwice, DriftTwice}
 use Rattle.bench.specs.declared.script.Naming.{Naming}
@@ -40,6 +42,10 @@ not_bad s node = unless_passed s node (is_bad (player s.clocks node)) (NotBad no
 
 abbrev pub not_good : Running → ℕ → List (Row Misfit)
 not_good s node = unless_passed s node (not (is_bad (player s.clocks node))) (NotGood node)
+
+-- A round of which the script has said nothing yet.
+abbrev pub nothing_said : Round
+nothing_said = record { heard = replicate 16 (replicate 16 Nothing); jitter = replicate 16 (replicate 16 None); drift = replicate 16 None }
 
 -- A message is of a bad node to a good one.
 abbrev pub unsayable : Running → ℕ → ℕ → List (Row Misfit)

@@ -5,7 +5,7 @@ ghost use Rattle.std.specs.Option.{unwrap_or};
 ghost use Rattle.midpoint.specs.Refusals.{ByRows};
 ghost use Rattle.cluster.specs.Rounds.{player};
 ghost use Rattle.cluster.specs.declared.clocks.Player.TheVariants.{Bad};
-ghost use Rattle.bench.specs.Script.{past, unless_passed, unnameable, Named, incomplete, not_good, not_bad, unsayable, Said, no_jitter, Jittered, no_drift, Drifted};
+ghost use Rattle.bench.specs.Script.{past, unless_passed, unnameable, Named, incomplete, not_good, not_bad, unsayable, Said, no_jitter, Jittered, no_drift, Drifted, nothing_said};
 
 use crate::entry;
 use crate::entry::Entry;
@@ -212,7 +212,8 @@ impl Naming {
 impl Running {
     // Nothing has been said yet of the round under way.
     fn new(clocks: Clocks) -> Running
-        ensures { result.clocks ≡ clocks }
+        ensures clocks { result.clocks ≡ clocks }
+        ensures round { result.round ≡ nothing_said }
     {
         Running {
             clocks,
