@@ -7,7 +7,7 @@ use Rattle.clock.specs.declared.limits.Cluster.{Cluster}
 use Rattle.cluster.specs.Rounds.{player, is_bad, heard_of, with_entry, with_place}
 use Rattle.schedule.specs.Heard.{with_one}
 use Rattle.cluster.specs.declared.clocks.Player.{Player}
-use Rattle.cluster.specs.declared.round.Heard.TheVariants.{Nothing}
+use Rattle.schedule.specs.declared.heard.Heard.TheVariants.{Nothing}
 use Rattle.cluster.specs.declared.round.Round.{Round}
 use Rattle.bench.specs.declared.reason.Misfit.{Misfit}
 use Rattle.bench.specs.declared.reason.Misfit.TheVariants.{PastTheCluster, NamedTwice, NotNamed, NotGood, NotBad, OwnClock, JitterPast, DriftPast, JitterTwice, DriftTwice}
