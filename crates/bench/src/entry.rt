@@ -47,6 +47,7 @@ pub(crate) fn parse(line: &str) -> Result<Option<Entry>, Malformed<'_>> {
     let Some(kind) = words.next() else {
         return Ok(None);
     };
+    // A match, and no table of closures: each word has a line of its own shape behind it.
     let entry = match kind {
         "cluster" => cluster(&mut words)?,
         "timing" => timing(&mut words)?,

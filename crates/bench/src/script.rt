@@ -76,6 +76,7 @@ impl Stage {
         }
     }
 
+    // A match, and no table of steps: each stage holds something else.
     fn take(self, entry: Entry) -> Result<Step, Misfit> {
         match self {
             Stage::Start => Ok(goes_on(Stage::Configured(configured(entry)?))),

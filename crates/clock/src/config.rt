@@ -5,20 +5,25 @@ ghost use Rattle.clock.specs.Config.{code_of, ToldApart, ClusterOf, unfit, error
 
 use crate::limits::Cluster;
 use midpoint::{Code, MAX_NODES};
-use std::fmt;
+use thiserror::Error;
 
 /// Why there is no cluster with these numbers: the first that applies, in this order.
-#[derive(Clone, Copy, PartialEq, Eq, Debug)]
+#[derive(Clone, Copy, PartialEq, Eq, Debug, Error)]
 pub enum Unfit {
     /// Fewer than 4 nodes, or more than 16.
+    #[error("a cluster has 4 to 16 nodes")]
     Nodes,
     /// More than 3 faults.
+    #[error("a cluster allows at most 3 faults")]
     Faults,
     /// The nodes are not more than three times the faults.
+    #[error("the nodes are not more than three times the faults")]
     NodesForFaults,
     /// A drift above 1000.
+    #[error("the drift is above 1000")]
     Drift,
     /// A jitter above 1000.
+    #[error("the jitter is above 1000")]
     Jitter,
 }
 
@@ -37,20 +42,9 @@ impl From<Unfit> for Code {
     }
 }
 
-impl fmt::Display for Unfit {
-    fn fmt<W: fmt::Write>(&self, f: &mut fmt::Formatter<W>) -> fmt::Result {
-        f.write_str(match self {
-            Unfit::Nodes => "a cluster has 4 to 16 nodes",
-            Unfit::Faults => "a cluster allows at most 3 faults",
-            Unfit::NodesForFaults => "the nodes are not more than three times the faults",
-            Unfit::Drift => "the drift is above 1000",
-            Unfit::Jitter => "the jitter is above 1000",
-        })
-    }
-}
-
 impl Cluster {
     /// A cluster with these numbers, or the first reason why there is none.
+    // Four numbers, and no struct of them: the one that holds them is what this makes.
     pub fn new(nodes: u64, faults: u64, drift: u64, jitter: u64) -> Result<Cluster, Unfit>
         ensures listed { ByRows (unfit nodes faults drift jitter) code_of (ClusterOf nodes faults drift jitter) result }
         ensures told_apart { IfErr result (ToldApart faults) }

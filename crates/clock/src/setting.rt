@@ -84,6 +84,7 @@ impl Clock {
         Ok(())
     }
 
+    // What was heard is an array of 16, of which the cluster's nodes count: there is no heap.
     /// The end of a round, at the time that the clock shows: it is set to the midpoint of what this node reads
     /// of all nodes of the cluster. Of each node its deviation was heard, or nothing; then, and of itself, the
     /// node reads its own clock, so that there are always as many readings as nodes. Readings that are turned

@@ -16,6 +16,7 @@ pub struct GoodNode {
 }
 
 /// A node: a bad one, of which the script says what it does, or a good one.
+// No `Option`: a bad node is not a missing one; while nodes are being named, `None` is one not named yet.
 #[derive(Clone, Copy)]
 pub enum Player {
     Bad,
@@ -78,6 +79,7 @@ impl From<Outcome> for Player {
     }
 }
 
+// Arrays of 16, of which the cluster's nodes count: there is no heap.
 /// A cluster at the end of a round: common time, which no node knows, how long a round lasts in it, and
 /// the nodes. What stands past the cluster's nodes is read by none of them.
 #[derive(Clone, Copy)]

@@ -59,6 +59,7 @@ impl From<Unfit> for Code {
     }
 }
 
+// By hand: the number and the place come first, which a derive would have to work out for each case.
 impl fmt::Display for Unfit {
     fn fmt<W: fmt::Write>(&self, f: &mut fmt::Formatter<W>) -> fmt::Result {
         let Code { number, place } = Code::from(*self);
@@ -77,6 +78,7 @@ impl fmt::Display for Unfit {
 
 impl Timing {
     /// Slots of this length for a cluster, or the first reason why they do not do. Nothing wraps.
+    // Four times, and no struct of them: the one that holds them is what this makes.
     pub fn new(
         cluster: &Cluster,
         slot: u64,

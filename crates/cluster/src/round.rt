@@ -6,6 +6,7 @@ ghost use Rattle.cluster.specs.Rounds.{heard_of, with_entry, with_place};
 use midpoint::MAX_NODES;
 use schedule::Heard;
 
+// Three tables, and no struct for each node: a line of a script changes an entry of one, and the others stay.
 /// A round: for each node `p` and bad node `q` what `p` gets of `q`, as a reading ahead of common time;
 /// for each node `p` and good node `q` by how much `p` reads `q` wrong; and by how much the clock of `p`
 /// runs off after its setting. What is not given is 0.

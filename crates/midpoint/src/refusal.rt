@@ -4,6 +4,7 @@ ghost use Rattle.midpoint.specs.Setting.{code_of};
 
 /// A refusal as the fixed list of all refusals has it: the number of its row, and the place in the
 /// input that it names.
+// Numbers, since callers and the fixed list know refusals by them; the reason itself is a case of an enum.
 #[derive(Clone, Copy, PartialEq, Eq, Debug)]
 pub struct Code {
     pub number: u64,

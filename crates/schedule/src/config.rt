@@ -6,20 +6,23 @@ ghost use Rattle.schedule.specs.Config.{code_of, unfit, ScheduleOf};
 use crate::limits::Schedule;
 use clock::Cluster;
 use midpoint::Code;
-use std::fmt;
+use thiserror::Error;
 
 /// The longest slot.
 pub const MAX_LENGTH: u64 = 1_000_000_000;
 
 /// Why there is no schedule with these times: the first that applies, in this order.
-#[derive(Clone, Copy, PartialEq, Eq, Debug)]
+#[derive(Clone, Copy, PartialEq, Eq, Debug, Error)]
 pub enum Unfit {
     /// The pause is shorter than width, error and drift together: a message could begin to arrive at a
     /// node whose clock is still to be set.
+    #[error("the pause is shorter than width, error and drift together")]
     PauseTooShort,
     /// A slot is shorter than pause, wire, width and message together: a message could end behind it.
+    #[error("the length is shorter than pause, wire, width and message together")]
     LengthTooShort,
     /// A slot is longer than 10^9.
+    #[error("the length is above 10^9")]
     LengthTooLong,
 }
 
@@ -36,20 +39,9 @@ impl From<Unfit> for Code {
     }
 }
 
-impl fmt::Display for Unfit {
-    fn fmt<W: fmt::Write>(&self, f: &mut fmt::Formatter<W>) -> fmt::Result {
-        f.write_str(match self {
-            Unfit::PauseTooShort => "the pause is shorter than width, error and drift together",
-            Unfit::LengthTooShort => {
-                "the length is shorter than pause, wire, width and message together"
-            }
-            Unfit::LengthTooLong => "the length is above 10^9",
-        })
-    }
-}
-
 impl Schedule {
     /// Slots of these times for a cluster, or the first reason why they do not do. No sum wraps.
+    // Four times, and no struct of them: the one that holds them is what this makes.
     pub fn new(
         cluster: Cluster,
         length: u64,
