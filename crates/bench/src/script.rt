@@ -9,7 +9,7 @@ ghost use Rattle.bench.specs.Script.{past, unless_passed, unnameable, Named, inc
 
 use crate::entry;
 use crate::entry::Entry;
-use crate::reason::{Fault, Lines, Misfit, Reason};
+use crate::reason::{Fault, Lines, Misfit};
 use clock::{Clock, Cluster};
 use cluster::{Clocks, GoodNode, Outcome, Played, Player, Round, Timing};
 use midpoint::{Code, MAX_NODES};
@@ -53,29 +53,29 @@ pub(crate) fn output<'a>(heap: Global, text: &'a str) -> Result<String, Fault<'a
     let mut stage = Stage::Start;
     for (index, words) in text.lines().enumerate() {
         let line = index + 1;
-        let step = stage
-            .read(words)
-            .map_err(|reason| Fault::Line { line, reason })?;
-        stage = step.stage;
-        show(&mut out, step.played)?;
+        let parsed = entry::parse(words).map_err(|malformed| Fault::Line {
+            line,
+            reason: malformed.into(),
+        })?;
+        if let Some(entry) = parsed {
+            let step = stage.take(entry).map_err(|misfit| Fault::Line {
+                line,
+                reason: misfit.into(),
+            })?;
+            stage = step.stage;
+            show(&mut out, step.played)?;
+        }
     }
+    let end = text.lines().count() + 1;
     let played = stage.end().map_err(|misfit| Fault::Line {
-        line: text.lines().count() + 1,
-        reason: Reason::from(misfit),
+        line: end,
+        reason: misfit.into(),
     })?;
     show(&mut out, played)?;
     Ok(out)
 }
 
 impl Stage {
-    // A line with nothing but a comment on it changes nothing.
-    fn read(self, words: &str) -> Result<Step, Reason<'_>> {
-        match entry::parse(words)? {
-            Some(entry) => Ok(self.take(entry)?),
-            None => Ok(goes_on(self)),
-        }
-    }
-
     // A match, and no table of steps: each stage holds something else.
     fn take(self, entry: Entry) -> Result<Step, Misfit> {
         match self {
