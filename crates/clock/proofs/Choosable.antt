@@ -1,12 +1,12 @@
 -- A round exists from any good clocks, for any errors, lies and running off that the cluster allows. Assumes nothing.
 use borrow.Author.Differences.{ints}
-use Rattle.std.proofs.Common.{◌≡◌, ℕ, ◌+◌, ◌-◌, ◌<◌, ◌≤◌, min, Bool, true, false, cond, eqb, List, [], ◌∷◌, map, ℤ, pos, negsuc, ◌+ℤ◌, ◌-ℤ◌, nat_abs, ◌≤ℤ◌, ◌<ℤ◌, Some, Option, sym, refl, ap, ◌∙◌, inl, inr, arith}
+use Rattle.std.proofs.Common.{◌≡◌, ℕ, ◌+◌, ◌-◌, ◌<◌, ◌≤◌, min, Bool, true, false, cond, eqb, List, map, ℤ, pos, negsuc, ◌+ℤ◌, ◌-ℤ◌, nat_abs, ◌≤ℤ◌, ◌<ℤ◌, Some, Option, sym, refl, ap, ◌∙◌, inl, inr, arith}
 use Rattle.std.proofs.lemmas.List.FromFn.{length-map-range_with_len}
 use Rattle.std.proofs.lemmas.Bool.{cases_Bool, eqb-false, ne_eqb}
 use Rattle.std.specs.List.{range_with_len}
 use Rattle.midpoint.specs.Midpoint.{midpoint}
-use Rattle.midpoint.specs.Order.{count}
 use Rattle.midpoint.specs.Setting.{clock_limit}
+use Rattle.midpoint.proofs.Sorting.{count_none}
 use Rattle.midpoint.proofs.Ranks.{holds}
 use Rattle.clock.specs.Config.{error_of}
 use Rattle.clock.specs.Deviation.{counted, moved}
@@ -43,11 +43,6 @@ module _ (own at there at' : ℕ) (by : ℤ) (l : 10000000000 ≤ own) (h : own 
 
   read_wrong : (moved own deviation < most) × (pos (moved own deviation) -ℤ pos at ≡ (pos there -ℤ pos at') +ℤ by)
   read_wrong = let w = wrong_exact in (omega (arith, ints), omega (arith, ints))
-
-none_fails : (xs : List ℕ) → count (λ q. false) xs ≡ 0
-unfolding count
-none_fails [] = refl
-none_fails (x ∷ xs) = let ih = none_fails xs in omega arith
 
 module _ (c : Cluster) (good : ℕ → Bool) (before : ℕ → Moment) (errors : ℕ → ℕ → ℤ) (lies : ℕ → ℕ → Option ℤ) (offs : ℕ → ℤ) (start : Start c good before)
     (small : (p q : ℕ) → nat_abs (errors p q) ≤ error_of c) (fits : (p q : ℕ) → LieFits (lies p q)) (steady : (p : ℕ) → nat_abs (offs p) ≤ c.drift) where
@@ -103,8 +98,8 @@ module _ (c : Cluster) (good : ℕ → Bool) (before : ℕ → Moment) (errors :
 
   middle_below : (p : ℕ) → GoodNode c good p → middle p ≤ most
   middle_below p g =
-      let out = few_outside c.nodes 0 most (λ q. true) (reading p) (λ q h t. let b = reads_below p q g h in (omega arith, omega arith)) in
-      let none = none_fails (range_with_len 0 c.nodes) in
+      let out = few_outside 0 c.nodes 0 most (λ q. true) (reading p) (λ q h t. let b = reads_below p q g (omega arith) in (omega arith, omega arith)) in
+      let none = count_none (λ q. false) (range_with_len 0 c.nodes) (λ i d h. refl) in
       let long = length-map-range_with_len (reading p) 0 c.nodes in
       (holds c.faults 0 most (map (reading p) (range_with_len 0 c.nodes)) (omega (arith, c.tolerated)) (omega arith)).1
 

@@ -63,7 +63,7 @@ module _ (c : Cluster) (good : ℕ → Bool) (lies : ℕ → ℕ → ℕ → Opt
   unfolding readings
   sets_to own j p l =
       let y : ℕ → ℕ = reads p own (all_heard j p) in
-      let few_out = few_outside c.nodes own own good y (λ q h g. let e = reads_good own j p q l h g in (omega arith, omega arith)) in
+      let few_out = few_outside 0 c.nodes own own good y (λ q h g. let e = reads_good own j p q l (omega arith) g in (omega arith, omega arith)) in
       let long = length-map-range_with_len y 0 c.nodes in
       let (a, b) = holds c.faults own own (map y (range_with_len 0 c.nodes)) (omega (arith, c.tolerated)) (omega arith) in
       omega arith

@@ -1,11 +1,12 @@
 -- What a round makes of the good clocks, and many rounds. Assumes nothing.
-use Rattle.std.proofs.Common.{◌≡◌, ℕ, zero, suc, ◌+◌, ◌-◌, ◌*◌, ◌/◌, ◌^◌, ◌<◌, ◌≤◌, Bool, not, eqb, List, map, ℤ, pos, ◌+ℤ◌, ◌≤ℤ◌, None, Option, sym, refl, ap, ◌∙◌, inl, inr, pow-suc, div-one, arith}
+use Rattle.std.proofs.Common.{◌≡◌, ℕ, zero, suc, ◌+◌, ◌-◌, ◌*◌, ◌/◌, ◌^◌, ◌<◌, ◌≤◌, Bool, not, eqb, List, map, ℤ, pos, ◌+ℤ◌, ◌≤ℤ◌, None, Option, sym, ap, ◌∙◌, inl, inr, pow-suc, div-one, arith}
 use native.Mathlib.Nat.{div-div-eq-div-mul}
 use borrow.Author.Differences.{ints}
-use Rattle.std.proofs.lemmas.List.FromFn.{length-map-range_with_len}
-use Rattle.std.proofs.lemmas.Bool.{cases_Bool, eqb-false, eqb-true, not-false}
+use Rattle.std.proofs.lemmas.List.FromFn.{length-map-range_with_len, get_or-map-range_with_len}
+use Rattle.std.proofs.lemmas.List.Sums.{prefix_len_is}
+use Rattle.std.proofs.lemmas.Bool.{cases_Bool, eqb-false, eqb-true, not-false, lt-ltb}
 use Rattle.std.proofs.lemmas.Bool.Decides.{nat_tests}
-use Rattle.std.specs.List.{range_with_len, prefix_len}
+use Rattle.std.specs.List.{range_with_len}
 use Rattle.midpoint.specs.Refusals.{first_applying}
 use Rattle.midpoint.specs.Setting.{unusable, shown, clock_limit}
 use Rattle.clock.specs.Config.{error_of, bound_of}
@@ -22,17 +23,15 @@ crossed a b x y d h = omega (arith, ints)
 uncrossed : (a b : Moment) (x y d : ℕ) → x + b.common ≤ y + a.common + d → ahead a x ≤ℤ (ahead b y +ℤ pos d)
 uncrossed a b x y d h = omega (arith, ints)
 
--- readings of which none comes to the limit
-all_shown : (y : ℕ → ℕ) (a n : ℕ) → ((q : ℕ) → q < a + n → y q < clock_limit) → prefix_len shown (map y (range_with_len a n)) ≡ n
-all_shown y a zero each = refl
-all_shown y a (suc n) each = let ih = all_shown y (a + 1) n (λ q h. each q (omega arith)) in let here = each a (omega arith) in grind (arith, nat_tests)
-
--- so the readings of a cluster's nodes are not turned away
+-- readings of a cluster's nodes of which none comes to the limit are not turned away
 pub not_turned_away : (c : Cluster) (y : ℕ → ℕ) → ((q : ℕ) → q < c.nodes → y q < clock_limit) →
     first_applying (unusable c.faults (map y (range_with_len 0 c.nodes))) ≡ None
 not_turned_away c y each =
-    let all = all_shown y 0 c.nodes (λ q h. each q (omega arith)) in
     let long = length-map-range_with_len y 0 c.nodes in
+    let all =
+    prefix_len_is shown (map y (range_with_len 0 c.nodes)) c.nodes 0 (omega arith)
+    (λ q h. let e = get_or-map-range_with_len y 0 c.nodes q q 0 h (omega arith) in rw e (lt-ltb (y q) clock_limit (each q h)))
+    (λ h. absurd (omega arith)) in
     let e = c.enough in
     let m = c.most in
     let t = c.tolerated in

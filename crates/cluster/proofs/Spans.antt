@@ -56,9 +56,9 @@ not_pulled_out c r p low high most a few span fits small g near =
     let y : ℕ → ℕ = reads p a.time (heard_by c r p a.time) in
     let (lx, hx) = span p a g in
     let outer =
-    few_outside c.cluster.nodes (low - most) (high + most) (good_in c) y
+    few_outside 0 c.cluster.nodes (low - most) (high + most) (good_in c) y
     (λ q h good.
-    let (b, s) = shows c q (player c q) h refl good in
+    let (b, s) = shows c q (player c q) (omega arith) refl good in
     let (l, u) = span q b s in
     let (under, over) =
     reads_near c r p a.time q most b (omega arith) (omega arith) small s
