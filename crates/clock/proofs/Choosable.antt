@@ -1,22 +1,20 @@
 -- A round exists from any good clocks, for any errors, lies and running off that the cluster allows. Assumes nothing.
 use borrow.Author.Differences.{ints}
 use Rattle.std.proofs.Common.{◌≡◌, ℕ, ◌+◌, ◌-◌, ◌<◌, ◌≤◌, min, Bool, true, false, cond, eqb, List, map, ℤ, pos, negsuc, ◌+ℤ◌, ◌-ℤ◌, nat_abs, ◌≤ℤ◌, ◌<ℤ◌, Some, Option, sym, refl, ap, ◌∙◌, inl, inr, arith}
-use Rattle.std.proofs.lemmas.List.FromFn.{length-map-range_with_len}
 use Rattle.std.proofs.lemmas.Bool.{cases_Bool, eqb-false, ne_eqb}
 use Rattle.std.specs.List.{range_with_len}
 use Rattle.midpoint.specs.Midpoint.{midpoint}
 use Rattle.midpoint.specs.Setting.{clock_limit}
 use Rattle.midpoint.proofs.Sorting.{count_none}
-use Rattle.midpoint.proofs.Ranks.{holds}
 use Rattle.clock.specs.Config.{error_of}
 use Rattle.clock.specs.Deviation.{counted, moved}
 use Rattle.clock.specs.Setting.{readings, reads, settled, next_round_of}
 use Rattle.clock.specs.Rounds.{Moment, ahead, lead, GoodNode, Round}
-use Rattle.clock.specs.Theorems.{IsSigned, LieFits, Start, CanBeChosen}
+use Rattle.clock.specs.Theorems.{IsSigned, LieFits, Start, Chosen}
 use Rattle.clock.specs.declared.limits.Clock.{Clock}
 use Rattle.clock.specs.declared.limits.Cluster.{Cluster}
 use Rattle.clock.proofs.Heard.{as_heard, heard_of, is_handed, lie_signed, lie_read}
-use Rattle.clock.proofs.Nodes.{few_outside}
+use Rattle.clock.proofs.Nodes.{midpoint_within}
 use Rattle.clock.proofs.Rounds.{not_turned_away}
 
 -- what no reading comes to here
@@ -98,10 +96,8 @@ module _ (c : Cluster) (good : ℕ → Bool) (before : ℕ → Moment) (errors :
 
   middle_below : (p : ℕ) → GoodNode c good p → middle p ≤ most
   middle_below p g =
-      let out = few_outside 0 c.nodes 0 most (λ q. true) (reading p) (λ q h t. let b = reads_below p q g (omega arith) in (omega arith, omega arith)) in
       let none = count_none (λ q. false) (range_with_len 0 c.nodes) (λ i d h. refl) in
-      let long = length-map-range_with_len (reading p) 0 c.nodes in
-      (holds c.faults 0 most (map (reading p) (range_with_len 0 c.nodes)) (omega (arith, c.tolerated)) (omega arith)).1
+      (midpoint_within c (λ q. true) (reading p) 0 most (omega arith) (λ q h t. let b = reads_below p q g h in (omega arith, omega arith))).1
 
   set_to : ℕ → Clock
   set_to p = record { shown = min (middle p) most; round = next_round_of (before p).clock.round; below = grind arith }
@@ -140,17 +136,15 @@ module _ (c : Cluster) (good : ℕ → Bool) (before : ℕ → Moment) (errors :
     counts = λ p g. refl;
   }
 
-pub can_be_chosen : CanBeChosen
-unfolding one_round
-can_be_chosen c good before errors lies offs start small fits steady = record {
-  heard = all_heard c good before errors lies offs start small fits steady;
-  after = run c good before errors lies offs start small fits steady;
-  round = one_round c good before errors lies offs start small fits steady;
-  handed = λ p g.
-      is_handed c.nodes c.most (hears c good before errors lies offs start small fits steady p)
-      (λ q h. fits_all c good before errors lies offs start small fits steady p q g h);
-  lied = λ p q h b. heard_of c.nodes c.most (hears c good before errors lies offs start small fits steady p) q h ∙ rw b;
-  erred = λ p q gp gq d. (reads_good c good before errors lies offs start small fits steady p q gp gq d).1;
-  ran = λ p g. runs_off c good before errors lies offs start small fits steady p;
-  later = λ p g. omega arith;
-}
+  pub chosen : Chosen c good before errors lies offs
+  unfolding one_round
+  chosen = record {
+    heard = all_heard;
+    after = run;
+    round = one_round;
+    handed = λ p g. is_handed c.nodes c.most (hears p) (λ q h. fits_all p q g h);
+    lied = λ p q h b. heard_of c.nodes c.most (hears p) q h ∙ rw b;
+    erred = λ p q gp gq d. (reads_good p q gp gq d).1;
+    ran = λ p g. runs_off p;
+    later = λ p g. omega arith;
+  }

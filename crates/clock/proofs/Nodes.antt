@@ -6,9 +6,12 @@ use Rattle.std.proofs.lemmas.Bool.Decides.{nat_tests}
 use Rattle.std.specs.List.{range_with_len}
 use Rattle.midpoint.specs.Order.{sorted, count}
 use Rattle.midpoint.specs.Theorems.{outside}
-use Rattle.midpoint.proofs.Ranks.{below_place, above_place}
+use Rattle.midpoint.specs.Midpoint.{midpoint}
+use Rattle.midpoint.proofs.Ranks.{below_place, above_place, holds}
+use Rattle.clock.specs.Rounds.{FewBad}
+use Rattle.clock.specs.declared.limits.Cluster.{Cluster}
 
-pub count_map : (test : ℕ → Bool) (f : ℕ → ℕ) (xs : List ℕ) → count test (map f xs) ≡ count (λ x. test (f x)) xs
+count_map : (test : ℕ → Bool) (f : ℕ → ℕ) (xs : List ℕ) → count test (map f xs) ≡ count (λ x. test (f x)) xs
 unfolding count
 count_map test f [] = refl
 count_map test f (x ∷ xs) = ap (λ n. cond (test (f x)) 1 0 + n) (count_map test f xs)
@@ -25,12 +28,21 @@ let_through b c d a (suc n) h =
     ]
 
 -- where the readings of good nodes lie in a span, no more lie outside of it than nodes are bad
-pub few_outside : (a n low high : ℕ) (good : ℕ → Bool) (y : ℕ → ℕ) → ((q : ℕ) → q < a + n → good q ≡ true → (low ≤ y q) × (y q ≤ high)) →
+few_outside : (a n low high : ℕ) (good : ℕ → Bool) (y : ℕ → ℕ) → ((q : ℕ) → q < a + n → good q ≡ true → (low ≤ y q) × (y q ≤ high)) →
     outside low high (map y (range_with_len a n)) ≤ count (λ q. not (good q)) (range_with_len a n)
 unfolding count
 few_outside a zero low high good y span = omega arith
 few_outside a (suc n) low high good y span =
     let ih = few_outside (a + 1) n low high good y (λ q h. span q (omega arith)) in let here = span a (omega arith) in grind (arith, nat_tests)
+
+-- so their midpoint lies in it
+pub midpoint_within : (c : Cluster) (good : ℕ → Bool) (y : ℕ → ℕ) (low high : ℕ) → FewBad c good →
+    ((q : ℕ) → q < c.nodes → good q ≡ true → (low ≤ y q) × (y q ≤ high)) →
+    (low ≤ midpoint c.faults (map y (range_with_len 0 c.nodes))) × (midpoint c.faults (map y (range_with_len 0 c.nodes)) ≤ high)
+midpoint_within c good y low high few span =
+    let out = few_outside 0 c.nodes low high good y (λ q h. span q (omega arith)) in
+    let long = length-map-range_with_len y 0 c.nodes in
+    holds c.faults low high (map y (range_with_len 0 c.nodes)) (omega (arith, c.tolerated)) (omega (arith, few))
 
 -- the reading that stands at place i in rising order, of n nodes
 abbrev pub at_place : ℕ → (ℕ → ℕ) → ℕ → ℕ

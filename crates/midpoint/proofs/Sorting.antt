@@ -14,6 +14,24 @@ abbrev pub Rises : ℕ → List ℕ → Type 0
 Rises m [] = Unit {0}
 Rises m (x ∷ xs) = (m ≤ x) × Rises x xs
 
+-- std's count is the same number
+count_is : (test : ℕ → Bool) (xs : List ℕ) → count test xs ≡ count_by test xs
+unfolding count
+count_is test xs = is_sum_by (count test) (λ x. cond (test x) 1 0) refl (λ x xs. refl) xs
+
+pub count_le : (test : ℕ → Bool) (xs : List ℕ) → count test xs ≤ length xs
+count_le test xs = rw (count_is test xs) (count_by-le-length test xs)
+
+-- a test that none of a list passes
+pub count_none : (test : ℕ → Bool) (xs : List ℕ) → All (λ x. test x ≡ false) xs → count test xs ≡ 0
+count_none test xs fails =
+    let none = sum_by-le (λ x. cond (test x) 1 0) 0 xs (λ i d h. let e = fails i d h in rw e (omega arith)) in omega (arith, count_is test xs)
+
+-- a list whose elements have changed places has the same numbers
+pub count_shuffled : (test : ℕ → Bool) (xs ys : List ℕ) → IsPermutation xs ys → count test ys ≡ count test xs
+count_shuffled test xs ys moved =
+    count_is test ys ∙ sum_by-IsPermutation (λ x. cond (test x) 1 0) xs ys moved ∙ sym (count_is test xs)
+
 insert-count : (test : ℕ → Bool) (x : ℕ) (xs : List ℕ) → count test (insert x xs) ≡ cond (test x) 1 0 + count test xs
 unfolding insert count
 insert-count test x [] = refl
@@ -25,11 +43,6 @@ unfolding sorted count
 sorted-count test [] = refl
 sorted-count test (x ∷ xs) = insert-count test x (sorted xs) ∙ ap (λ n. cond (test x) 1 0 + n) (sorted-count test xs)
 
--- std's count is the same number
-count_is : (test : ℕ → Bool) (xs : List ℕ) → count test xs ≡ count_by test xs
-unfolding count
-count_is test xs = is_sum_by (count test) (λ x. cond (test x) 1 0) refl (λ x xs. refl) xs
-
 all_pass : (xs : List ℕ) → count (λ _. true) xs ≡ length xs
 unfolding count
 all_pass [] = refl
@@ -37,14 +50,6 @@ all_pass (x ∷ xs) = omega (arith, all_pass xs)
 
 pub sorted-length : (xs : List ℕ) → length (sorted xs) ≡ length xs
 sorted-length xs = sym (all_pass (sorted xs)) ∙ sorted-count (λ _. true) xs ∙ all_pass xs
-
-pub count_le : (test : ℕ → Bool) (xs : List ℕ) → count test xs ≤ length xs
-count_le test xs = rw (count_is test xs) (count_by-le-length test xs)
-
--- a test that none of a list passes
-pub count_none : (test : ℕ → Bool) (xs : List ℕ) → All (λ x. test x ≡ false) xs → count test xs ≡ 0
-count_none test xs fails =
-    let none = sum_by-le (λ x. cond (test x) 1 0) 0 xs (λ i d h. let e = fails i d h in rw e (omega arith)) in omega (arith, count_is test xs)
 
 -- and leaves it in rising order
 insert_rises : (m x : ℕ) (xs : List ℕ) → m ≤ x → Rises m xs → Rises m (insert x xs)
@@ -65,19 +70,16 @@ at_least m (x ∷ xs) (suc i) d r h = omega (arith, at_least x xs i d r.1, r.0)
 -- the two ways to say that a list rises
 pub rising_from_rises : (m : ℕ) (xs : List ℕ) → Rises m xs → Rising xs
 rising_from_rises m [] r i j le h = omega arith
-rising_from_rises m (x ∷ xs) r zero zero le h = omega arith
-rising_from_rises m (x ∷ xs) r zero (suc j) le h = at_least x xs j 0 r.1 (omega arith)
+rising_from_rises m (x ∷ xs) r zero j le h = at_least x (x ∷ xs) j 0 (omega arith, r.1) h
 rising_from_rises m (x ∷ xs) r (suc i) zero le h = omega arith
 rising_from_rises m (x ∷ xs) r (suc i) (suc j) le h = rising_from_rises x xs r.1 i j (omega arith) (omega arith)
 
-rises_behind : (x : ℕ) (xs : List ℕ) → Rising (x ∷ xs) → Rises x xs
-rises_behind x [] up = tt
-rises_behind x (y ∷ ys) up =
-    (up 0 1 (omega arith) (omega arith), rises_behind y ys (λ i j le h. up (suc i) (suc j) (omega arith) (omega arith)))
-
-pub rises_from_rising : (xs : List ℕ) → Rising xs → Rises 0 xs
-rises_from_rising [] up = tt
-rises_from_rising (x ∷ xs) up = (omega arith, rises_behind x xs up)
+rises_from_rising : (m : ℕ) (xs : List ℕ) → ((i : ℕ) → i < length xs → m ≤ get_or xs i 0) → Rising xs → Rises m xs
+rises_from_rising m [] low up = tt
+rises_from_rising m (x ∷ xs) low up = (
+  low 0 (omega arith),
+  rises_from_rising x xs (λ i h. up 0 (suc i) (omega arith) (omega arith)) (λ i j le h. up (suc i) (suc j) (omega arith) (omega arith)),
+)
 
 first_not_below : (x m : ℕ) (xs : List ℕ) (y : ℕ) (ys : List ℕ) → Rises m (y ∷ ys) → SameNumbers (x ∷ xs) (y ∷ ys) → x < y → ⊥
 unfolding count
@@ -88,7 +90,7 @@ first_not_below x m xs y ys r same h =
     grind (arith, nat_tests)
 
 -- two lists that rise and have the same numbers are the same list
-pub same_rises : (m n : ℕ) (xs ys : List ℕ) → Rises m xs → Rises n ys → SameNumbers xs ys → xs ≡ ys
+same_rises : (m n : ℕ) (xs ys : List ℕ) → Rises m xs → Rises n ys → SameNumbers xs ys → xs ≡ ys
 unfolding count
 same_rises m n [] [] r s same = refl
 same_rises m n [] (y ∷ ys) r s same = let here = eq-eqb y y refl in let at = same y in absurd (grind (arith, nat_tests))
@@ -105,9 +107,4 @@ same_rises m n (x ∷ xs) (y ∷ ys) r s same =
 
 -- so a list that rises and has the numbers of another is that one sorted
 pub sorted_is : (xs ys : List ℕ) → Rising ys → SameNumbers ys xs → ys ≡ sorted xs
-sorted_is xs ys up same = same_rises 0 0 ys (sorted xs) (rises_from_rising ys up) (sorted_rises xs) (λ z. same z ∙ sym (sorted-count (eqb z) xs))
-
--- a list whose elements have changed places has the same numbers
-pub count_shuffled : (test : ℕ → Bool) (xs ys : List ℕ) → IsPermutation xs ys → count test ys ≡ count test xs
-count_shuffled test xs ys moved =
-    count_is test ys ∙ sum_by-IsPermutation (λ x. cond (test x) 1 0) xs ys moved ∙ sym (count_is test xs)
+sorted_is xs ys up same = same_rises 0 0 ys (sorted xs) (rises_from_rising 0 ys (λ i h. omega arith) up) (sorted_rises xs) (λ z. same z ∙ sym (sorted-count (eqb z) xs))
