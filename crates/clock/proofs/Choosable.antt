@@ -1,13 +1,13 @@
 -- A round exists from any good clocks, for any errors, lies and running off that the cluster allows. Assumes nothing.
 use borrow.Author.Differences.{ints}
-use Rattle.std.proofs.Common.{◌≡◌, ℕ, ◌+◌, ◌-◌, ◌<◌, ◌≤◌, min, Bool, true, false, cond, eqb, List, map, ℤ, pos, negsuc, ◌+ℤ◌, ◌-ℤ◌, nat_abs, ◌≤ℤ◌, ◌<ℤ◌, Some, Option, sym, refl, ap, ◌∙◌, inl, inr, arith}
+use Rattle.std.proofs.Common.{◌≡◌, ℕ, ◌+◌, ◌-◌, ◌<◌, ◌≤◌, min, Bool, true, false, cond, eqb, List, map, ℤ, pos, ◌+ℤ◌, ◌-ℤ◌, nat_abs, ◌≤ℤ◌, ◌<ℤ◌, Some, Option, sym, refl, ◌∙◌, inl, inr, arith}
 use Rattle.std.proofs.lemmas.Bool.{cases_Bool, eqb-false, ne_eqb}
 use Rattle.std.specs.List.{range_with_len}
 use Rattle.midpoint.specs.Midpoint.{midpoint}
 use Rattle.midpoint.specs.Setting.{clock_limit}
 use Rattle.midpoint.proofs.Sorting.{count_none}
 use Rattle.clock.specs.Config.{error_of}
-use Rattle.clock.specs.Deviation.{counted, moved}
+use Rattle.clock.specs.Deviation.{moved}
 use Rattle.clock.specs.Setting.{readings, reads, settled, next_round_of}
 use Rattle.clock.specs.Rounds.{Moment, ahead, lead, GoodNode, Round}
 use Rattle.clock.specs.Theorems.{IsSigned, LieFits, Start, Chosen}
@@ -21,13 +21,9 @@ use Rattle.clock.proofs.Rounds.{not_turned_away}
 abbrev most : ℕ
 most = 800000000000
 
-counted_exact : (z : ℤ) → pos 0 ≤ℤ z → z <ℤ pos clock_limit → pos (counted z) ≡ z
-counted_exact (pos n) l h = ap pos (grind (arith, ints))
-counted_exact (negsuc n) l h = absurd (grind (arith, ints))
-
 -- a time that is moved to one that can be counted
 moved_exact : (time : ℕ) (by : ℤ) → pos 0 ≤ℤ (pos time +ℤ by) → (pos time +ℤ by) <ℤ pos clock_limit → pos (moved time by) ≡ pos time +ℤ by
-moved_exact time by l h = counted_exact (pos time +ℤ by) l h
+moved_exact time by l h = grind (arith, ints)
 
 -- the deviation by which a clock is read wrong by an error
 module _ (own at there at' : ℕ) (by : ℤ) (l : 10000000000 ≤ own) (h : own ≤ 400000000000)
@@ -36,11 +32,8 @@ module _ (own at there at' : ℕ) (by : ℤ) (l : 10000000000 ≤ own) (h : own 
   abbrev deviation : ℤ
   deviation = ((pos there -ℤ pos at') -ℤ (pos own -ℤ pos at)) +ℤ by
 
-  wrong_exact : pos (moved own deviation) ≡ pos own +ℤ deviation
-  wrong_exact = moved_exact own deviation (omega (arith, ints)) (omega (arith, ints))
-
   read_wrong : (moved own deviation < most) × (pos (moved own deviation) -ℤ pos at ≡ (pos there -ℤ pos at') +ℤ by)
-  read_wrong = let w = wrong_exact in (omega (arith, ints), omega (arith, ints))
+  read_wrong = let w = moved_exact own deviation (omega (arith, ints)) (omega (arith, ints)) in (omega (arith, ints), omega (arith, ints))
 
 module _ (c : Cluster) (good : ℕ → Bool) (before : ℕ → Moment) (errors : ℕ → ℕ → ℤ) (lies : ℕ → ℕ → Option ℤ) (offs : ℕ → ℤ) (start : Start c good before)
     (small : (p q : ℕ) → nat_abs (errors p q) ≤ error_of c) (fits : (p q : ℕ) → LieFits (lies p q)) (steady : (p : ℕ) → nat_abs (offs p) ≤ c.drift) where

@@ -1,20 +1,19 @@
 -- Rounds as they are asked for exist, whatever the faulty nodes say: the good clocks show common time, and read each other as that. Assumes
 -- nothing.
 use borrow.Author.Differences.{ints}
-use Rattle.std.proofs.Common.{◌≡◌, ℕ, suc, ◌<◌, ◌≤◌, min, Bool, true, cond, List, ℤ, pos, Some, None, Option, sym, refl, ◌∙◌, inl, inr, arith}
+use Rattle.std.proofs.Common.{◌≡◌, ℕ, suc, ◌<◌, ◌≤◌, min, Bool, true, cond, List, ℤ, pos, Some, Option, sym, refl, ◌∙◌, inl, inr, arith}
 use Rattle.std.proofs.lemmas.Bool.{cases_Bool}
 use Rattle.std.proofs.lemmas.Bool.Decides.{nat_tests}
 use Rattle.midpoint.specs.Midpoint.{midpoint}
-use Rattle.midpoint.specs.Refusals.{first_applying}
-use Rattle.midpoint.specs.Setting.{unusable, clock_limit}
-use Rattle.midpoint.specs.declared.refusal.Code.{Code}
-use Rattle.clock.specs.Setting.{readings, reads, unless}
+use Rattle.midpoint.specs.Setting.{clock_limit}
+use Rattle.clock.specs.Setting.{readings, reads}
 use Rattle.clock.specs.Rounds.{Moment, FewBad, Round}
 use Rattle.clock.specs.Theorems.{IsSigned, LieFits, Possible, CanBeRun}
 use Rattle.clock.specs.declared.limits.Clock.{Clock}
 use Rattle.clock.specs.declared.limits.Cluster.{Cluster}
 use Rattle.clock.proofs.Heard.{as_heard, heard_of, is_handed, lie_signed, lie_read}
 use Rattle.clock.proofs.Nodes.{midpoint_within}
+use Rattle.clock.proofs.Rounds.{not_turned_away}
 
 -- a clock that shows the number of its round, up to a number that is not reached
 abbrev last : ℕ
@@ -25,10 +24,6 @@ clock_at j = record { shown = min j last; round = j; below = grind arith }
 
 abbrev moment_at : ℕ → ℕ → Moment
 moment_at j p = record { common = j; clock = clock_at j }
-
-either_way : (o : Option Code) (own time : ℕ) → time ≡ own → own ≡ unless o time own
-either_way None own time e = sym e
-either_way (Some code) own time e = refl
 
 module _ (c : Cluster) (good : ℕ → Bool) (lies : ℕ → ℕ → ℕ → Option ℤ) (few : FewBad c good) (fits : (j p q : ℕ) → LieFits (lies j p q)) where
   -- good nodes are heard when they are due
@@ -64,6 +59,7 @@ module _ (c : Cluster) (good : ℕ → Bool) (lies : ℕ → ℕ → ℕ → Opt
       omega arith
 
   one_round : (j : ℕ) → j < last → Round c good (all_heard j) (moment_at j) (moment_at (suc j))
+  unfolding readings
   one_round j h =
       let own = min j last in
       let l : own ≤ last = grind arith in
@@ -72,7 +68,7 @@ module _ (c : Cluster) (good : ℕ → Bool) (lies : ℕ → ℕ → ℕ → Opt
         taken = λ p q g k. reads_below own j p q l k;
         set = λ p. record { shown = own; round = suc j; below = grind arith };
         sets = λ p g. record {
-          its_shown = either_way (first_applying (unusable c.faults (readings c.nodes p own (all_heard j p)))) own _ (sets_to own j p l);
+          its_shown = let u = not_turned_away c (reads p own (all_heard j p)) (λ q k. reads_below own j p q l k) in rw u (sym (sets_to own j p l));
           its_round = grind arith;
         };
         runs = λ p g. (omega (arith, ints), omega (arith, ints));

@@ -66,8 +66,8 @@ module _ (c : Clocks) (r : Round) (limits : KeepsLimits c r) where
   shows_time p a (h, e) = rw e
 
   reads_below : (p q : ℕ) → clocks.GoodNode c.cluster (good_in c) p → q < c.cluster.nodes → reads p (time_at p) (heard_by c r p (time_at p)) q < clock_limit
-  reads_below p q (h, g) k =
-      let (a, s) = shows c p (player c p) h refl g in
+  reads_below p q g k =
+      let (a, s) = shows c p g in
       subst (λ t. reads p t (heard_by c r p t) q < clock_limit) (sym (shows_time p a s)) (limits.taken p q a s k)
 
   time_below : (p : ℕ) → clocks.GoodNode c.cluster (good_in c) p → time_at p < clock_limit
@@ -81,8 +81,11 @@ module _ (c : Clocks) (r : Round) (limits : KeepsLimits c r) where
   middle_below : (p : ℕ) → clocks.GoodNode c.cluster (good_in c) p → middle p < clock_limit
   middle_below p g = stays_shown c.cluster.faults (middle p) (all_read c r p (time_at p)) (usable p g, refl)
 
-  is_shown : (time : ℕ) → time < clock_limit → min time (clock_limit - 1) ≡ time
-  is_shown time h = grind arith
+  shown_time : (p : ℕ) → clocks.GoodNode c.cluster (good_in c) p → min (time_at p) (clock_limit - 1) ≡ time_at p
+  shown_time p g = let b = time_below p g in grind arith
+
+  shown_middle : (p : ℕ) → clocks.GoodNode c.cluster (good_in c) p → min (middle p) (clock_limit - 1) ≡ middle p
+  shown_middle p g = let b = middle_below p g in grind arith
 
   abbrev heard : ℕ → List (Option ℤ)
   heard p = heard_by c r p (time_at p)
@@ -93,8 +96,8 @@ module _ (c : Clocks) (r : Round) (limits : KeepsLimits c r) where
   reads_good : (p q : ℕ) → clocks.GoodNode c.cluster (good_in c) p → clocks.GoodNode c.cluster (good_in c) q → (p ≡ q → ⊥) →
       (time_at q ≤ reads p (time_at p) (heard p) q + error_of c.cluster) × (reads p (time_at p) (heard p) q ≤ time_at q + error_of c.cluster)
   reads_good p q gp gq d =
-      let (a, s) = shows c p (player c p) gp.0 refl gp.1 in
-      let (b, t) = shows c q (player c q) gq.0 refl gq.1 in
+      let (a, s) = shows c p gp in
+      let (b, t) = shows c q gq in
       let small : error_of c.cluster ≤ clock_limit = omega (arith, c.cluster.steady, c.cluster.exact) in
       let e = shows_time q b t in
       let (under, over) =
@@ -105,15 +108,15 @@ module _ (c : Clocks) (r : Round) (limits : KeepsLimits c r) where
   as_round : clocks.Round c.cluster (good_in c) heard before (λ p. record { common = c.common; clock = set p })
   as_round = record {
     fair = λ p q gp gq d.
-        let ep = is_shown (time_at p) (time_below p gp) in
-        let eq = is_shown (time_at q) (time_below q gq) in
+        let ep = shown_time p gp in
+        let eq = shown_time q gq in
         let (under, over) = subst (λ t. (time_at q ≤ reads p t (heard p) q + error_of c.cluster) × (reads p t (heard p) q ≤ time_at q + error_of c.cluster)) (sym ep) (reads_good p q gp gq d) in
         (omega (arith, ints), omega (arith, ints));
-    taken = λ p q g k. subst (λ t. reads p t (heard p) q < clock_limit) (sym (is_shown (time_at p) (time_below p g))) (reads_below p q g k);
+    taken = λ p q g k. subst (λ t. reads p t (heard p) q < clock_limit) (sym (shown_time p g)) (reads_below p q g k);
     set = set;
     sets = λ p g.
-        let e = is_shown (time_at p) (time_below p g) in
-        let m = is_shown (middle p) (middle_below p g) in
+        let e = shown_time p g in
+        let m = shown_middle p g in
         let u = usable p g in
         record { its_shown = rw (e, u) m; its_round = refl };
     runs = λ p g. (omega (arith, ints), omega (arith, ints));
@@ -163,19 +166,19 @@ module _ (c : Clocks) (r : Round) (limits : KeepsLimits c r) where
   -- good clocks that are no more than d apart, as moments
   as_apart : (d : ℕ) → Apart c d → clocks.Apart c.cluster (good_in c) d before
   as_apart d apart p q gp gq =
-      let (a, s) = shows c p (player c p) gp.0 refl gp.1 in
-      let (b, t) = shows c q (player c q) gq.0 refl gq.1 in
+      let (a, s) = shows c p gp in
+      let (b, t) = shows c q gq in
       let near = apart p q a b s t in
-      let ep = is_shown (time_at p) (time_below p gp) ∙ shows_time p a s in
-      let eq = is_shown (time_at q) (time_below q gq) ∙ shows_time q b t in
+      let ep = shown_time p gp ∙ shows_time p a s in
+      let eq = shown_time q gq ∙ shows_time q b t in
       omega (arith, ints)
 
   set_near : (d p q : ℕ) → Apart c d → clocks.GoodNode c.cluster (good_in c) p → clocks.GoodNode c.cluster (good_in c) q →
       middle p ≤ middle q + (d / 2 + 2 * error_of c.cluster + 1)
   unfolding as_round
   set_near d p q apart gp gq =
-      let mp = is_shown (middle p) (middle_below p gp) in
-      let mq = is_shown (middle q) (middle_below q gq) in
+      let mp = shown_middle p gp in
+      let mq = shown_middle q gq in
       let closer : (set p).shown + c.common ≤ (set q).shown + c.common + (d / 2 + 2 * error_of c.cluster + 1) =
       set_closer c.cluster (good_in c) heard before _ d limits.few as_round (as_apart d apart) p q gp gq in
       omega arith
@@ -184,7 +187,7 @@ module _ (c : Clocks) (r : Round) (limits : KeepsLimits c r) where
   runs_on : (p : ℕ) → clocks.GoodNode c.cluster (good_in c) p →
       (run_on c r p (middle p) ≤ middle p + c.span + c.cluster.drift) × (middle p + c.span ≤ run_on c r p (middle p) + c.cluster.drift)
   runs_on p g =
-      let (a, s) = shows c p (player c p) g.0 refl g.1 in
+      let (a, s) = shows c p g in
       moved_on (middle p) c.span c.cluster.drift (drift_of r p) (middle_below p g) (omega (arith, limits.counted)) (omega (arith, c.cluster.steady))
       (limits.drifts p a s)
 

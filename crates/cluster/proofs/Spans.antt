@@ -7,6 +7,7 @@ use Rattle.std.proofs.lemmas.Bool.{cases_Bool, eqb-true, eqb-false}
 use Rattle.std.proofs.lemmas.Bool.Decides.{nat_tests}
 use Rattle.midpoint.specs.Setting.{clock_limit}
 use Rattle.clock.specs.Deviation.{deviation_of, moved}
+use Rattle.clock.specs.Rounds as clocks
 use Rattle.clock.specs.Setting.{reads, readings}
 use Rattle.clock.proofs.Nodes.{midpoint_within}
 use Rattle.cluster.specs.Rounds.{player, jitter_of, told, heard_by}
@@ -23,10 +24,12 @@ read_near : (own time most : ℕ) (jitter : ℤ) → own < clock_limit → time 
 read_near own time most jitter l h m n = (grind (arith, ints), grind (arith, ints))
 
 -- a node that is good shows something
-pub shows : (c : Clocks) (p : ℕ) (node : Player) → p < c.cluster.nodes → player c p ≡ node → good_in c p ≡ true →
-    (good : GoodNode) × Shows c p good
-shows c p Bad h e g = absurd (grind (arith, nat_tests))
-shows c p (Good good) h e g = (good, (h, e))
+shows_as : (c : Clocks) (p : ℕ) (node : Player) → p < c.cluster.nodes → player c p ≡ node → good_in c p ≡ true → (good : GoodNode) × Shows c p good
+shows_as c p Bad h e g = absurd (grind (arith, nat_tests))
+shows_as c p (Good good) h e g = (good, (h, e))
+
+pub shows : (c : Clocks) (p : ℕ) → clocks.GoodNode c.cluster (good_in c) p → (good : GoodNode) × Shows c p good
+shows c p (h, g) = shows_as c p (player c p) h refl g
 
 -- what is heard of a node of the cluster
 pub heard_at : (c : Clocks) (r : Round) (p own q : ℕ) → q < c.cluster.nodes → get_or (heard_by c r p own) q None ≡ told c r p own q
@@ -53,7 +56,7 @@ not_pulled_out c r p low high most a few span fits small g near =
     let (l, h) =
     midpoint_within c.cluster (good_in c) (reads p a.time (heard_by c r p a.time)) (low - most) (high + most) few
     (λ q h good.
-    let (b, s) = shows c q (player c q) h refl good in
+    let (b, s) = shows c q (h, good) in
     let (l, u) = span q b s in
     let (under, over) =
     reads_near c r p a.time q most b (omega arith) (omega arith) small s (λ e. cc) (near q b s) in
