@@ -19,12 +19,12 @@ pub seen_from_fn : {F X Y : Type 0} (g : Mut F (ℕ × Unit {0}) X) (s : X → Y
     ((i : ℕ) (x : X) (f' : F) → Called g f (i, tt) x f' → (s x ≡ h i) × (f' ≡ f)) →
     (xs : List X) (n : ℕ) → IsFromFnResult g f xs n → map s xs ≡ map h (range_with_len 0 n)
 seen_from_fn {F} {X} g s h f call xs n made =
-    let each : (k : ℕ) → 0 ≤ k → k < 0 + n → (x : X) × (get_or xs k x ≡ x) × (s x ≡ h k) =
+    let each =
     each_of (IsFromFnResultFrom g f xs) (λ k. (x : X) × (get_or xs k x ≡ x) × (s x ≡ h k))
     (λ i m r.
     let (f', x, at, called, rest) = r in
     let (gives, stays) = call i x f' called in
-    ((x, at.0, gives), subst (λ f. IsFromFnResultFrom g f xs (i + 1) m) stays rest))
+    ((x, at.0, gives), rw stays at rest))
     n 0 made.each in
     fill_by_all h (map s xs) n (h 0) (length-map xs s ∙ made.long)
     (λ k l. let (x, at, e) = each k (omega arith) (omega arith) in get_or-map s xs k x (h 0) (omega (arith, made.long)) ∙ ap s at ∙ e)
@@ -38,12 +38,12 @@ from_fn_gives g h f call xs n made = sym (map-id xs) ∙ seen_from_fn g (λ x. x
 pub map_gives : {F A B : Type 0} (g : Mut F (A × Unit {0}) B) (h : A → B) (f : F) → ((x : A) (y : B) (f' : F) → Called g f (x, tt) y f' → (y ≡ h x) × (f' ≡ f)) →
     (xs : List A) (ys : List B) (n : ℕ) → length xs ≡ n → IsMapOf g f xs ys n → ys ≡ map h xs
 map_gives {F} {A} {B} g h f call xs ys n long made =
-    let each : (k : ℕ) → 0 ≤ k → k < 0 + n → (x : A) × (get_or xs k x ≡ x) × ((d : B) → get_or ys k d ≡ h x) =
+    let each =
     each_of (MapsFrom g f xs ys) (λ k. (x : A) × (get_or xs k x ≡ x) × ((d : B) → get_or ys k d ≡ h x))
     (λ i m r.
     let (f', x, y, from, to, called, rest) = r in
     let (gives, stays) = call x y f' called in
-    ((x, from.0, λ d. to.1 d ∙ gives), subst (λ f. MapsFrom g f xs ys (i + 1) m) stays rest))
+    ((x, from.0, λ d. to.1 d ∙ gives), rw stays at rest))
     n 0 made.each in
     same_lists ys (map h xs) (made.long ∙ sym (length-map xs h ∙ long))
     (λ k d l. let (x, at, e) = each k (omega arith) (omega (arith, made.long)) in e d ∙ sym (get_or-map h xs k x d (omega (arith, made.long)) ∙ ap h at))

@@ -68,7 +68,7 @@ module _ (c : Clocks) (r : Round) (limits : KeepsLimits c r) where
   reads_below : (p q : ℕ) → clocks.GoodNode c.cluster (good_in c) p → q < c.cluster.nodes → reads p (time_at p) (heard_by c r p (time_at p)) q < clock_limit
   reads_below p q g k =
       let (a, s) = shows c p g in
-      subst (λ t. reads p t (heard_by c r p t) q < clock_limit) (sym (shows_time p a s)) (limits.taken p q a s k)
+      rw (shows_time p a s) (limits.taken p q a s k)
 
   time_below : (p : ℕ) → clocks.GoodNode c.cluster (good_in c) p → time_at p < clock_limit
   time_below p g = let b = reads_below p p g g.0 in let e = eq-eqb p p refl in rw e at b
@@ -108,11 +108,10 @@ module _ (c : Clocks) (r : Round) (limits : KeepsLimits c r) where
   as_round : clocks.Round c.cluster (good_in c) heard before (λ p. record { common = c.common; clock = set p })
   as_round = record {
     fair = λ p q gp gq d.
-        let ep = shown_time p gp in
         let eq = shown_time q gq in
-        let (under, over) = subst (λ t. (time_at q ≤ reads p t (heard p) q + error_of c.cluster) × (reads p t (heard p) q ≤ time_at q + error_of c.cluster)) (sym ep) (reads_good p q gp gq d) in
-        (omega (arith, ints), omega (arith, ints));
-    taken = λ p q g k. subst (λ t. reads p t (heard p) q < clock_limit) (sym (shown_time p g)) (reads_below p q g k);
+        let (under, over) = reads_good p q gp gq d in
+        rw (shown_time p gp) (omega (arith, ints), omega (arith, ints));
+    taken = λ p q g k. rw (shown_time p g) (reads_below p q g k);
     set = set;
     sets = λ p g.
         let e = shown_time p g in
@@ -132,8 +131,7 @@ module _ (c : Clocks) (r : Round) (limits : KeepsLimits c r) where
       let l = limits.timely p a (h, e) in
       let b = time_below p (h, g) in
       let timely : first_applying (untimely a.clock.shown p a.time) ≡ None = grind (arith, nat_tests) in
-      let usable_at : first_applying (unusable c.cluster.faults (all_read c r p a.time)) ≡ None =
-      subst (λ y. first_applying (unusable c.cluster.faults (all_read c r p y)) ≡ None) t u in
+      let usable_at = rw t at u in
       let at : middle p ≡ midpoint c.cluster.faults (all_read c r p a.time) = ap (λ y. midpoint c.cluster.faults (all_read c r p y)) t in
       rw (at, e, timely, usable_at)
 
