@@ -86,22 +86,21 @@ module _ (c : Cluster) (good : ℕ → Bool) (heard : ℕ → List (Option ℤ))
       let (s, gs, _, low) = some_good q q 0 c.faults gq gq (omega arith) (omega arith) in
       (some_good p q c.faults top gp gq (omega arith) (omega arith), (r, gr, high), (s, gs, low))
 
--- what the settings leave them apart
-pub set_closer : (c : Cluster) (good : ℕ → Bool) (heard : ℕ → List (Option ℤ)) (before after : ℕ → Moment) (d : ℕ) → FewBad c good →
-    (round : Round c good heard before after) → Apart c good d before → (p q : ℕ) → GoodNode c good p → GoodNode c good q →
-    (round.set p).shown + (before q).common ≤ (round.set q).shown + (before p).common + (d / 2 + 2 * error_of c + 1)
-set_closer c good heard before after d few round apart p q gp gq =
-    let ((t, gt, over, under), (r, gr, high), (s, gs, low)) = tied c good heard before after few round p q gp gq in
-    omega (
-      arith,
-      is_set_to c good heard before after few round p gp,
-      is_set_to c good heard before after few round q gq,
-      crossed (before p) (before t) _ _ _ over,
-      crossed (before t) (before q) _ _ _ under,
-      crossed (before p) (before r) _ _ _ high,
-      crossed (before s) (before q) _ _ _ low,
-      crossed (before r) (before s) _ _ _ (apart r s gr gs),
-    )
+  -- what the settings leave them apart
+  pub set_closer : (d : ℕ) → Apart c good d before → (p q : ℕ) → GoodNode c good p → GoodNode c good q →
+      (round.set p).shown + (before q).common ≤ (round.set q).shown + (before p).common + (d / 2 + 2 * error_of c + 1)
+  set_closer d apart p q gp gq =
+      let ((t, gt, over, under), (r, gr, high), (s, gs, low)) = tied p q gp gq in
+      omega (
+        arith,
+        is_set_to p gp,
+        is_set_to q gq,
+        crossed (before p) (before t) _ _ _ over,
+        crossed (before t) (before q) _ _ _ under,
+        crossed (before p) (before r) _ _ _ high,
+        crossed (before s) (before q) _ _ _ low,
+        crossed (before r) (before s) _ _ _ (apart r s gr gs),
+      )
 
 pub halves : Halves
 halves c good heard before after d few round apart p q gp gq =
@@ -110,7 +109,7 @@ halves c good heard before after d few round apart p q gp gq =
     uncrossed (after p) (after q) _ _ _
     (omega (
       arith,
-      set_closer c good heard before after d few round apart p q gp gq,
+      set_closer c good heard before after few round d apart p q gp gq,
       crossed (after p) (before p) _ _ _ up,
       crossed (before q) (after q) _ _ _ down,
     ))

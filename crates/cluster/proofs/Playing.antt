@@ -178,7 +178,7 @@ module _ (c : Clocks) (r : Round) (limits : KeepsLimits c r) where
       let mp = shown_middle p gp in
       let mq = shown_middle q gq in
       let closer : (set p).shown + c.common ≤ (set q).shown + c.common + (d / 2 + 2 * error_of c.cluster + 1) =
-      set_closer c.cluster (good_in c) heard before _ d limits.few as_round (as_apart d apart) p q gp gq in
+      set_closer c.cluster (good_in c) heard before _ limits.few as_round d (as_apart d apart) p q gp gq in
       omega arith
 
   -- a clock runs on by a round, but for the drift
