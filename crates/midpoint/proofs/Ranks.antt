@@ -1,5 +1,5 @@
 -- How many numbers of a list lie below or above the one at a place in rising order, and what that makes of the midpoint. Assumes nothing.
-use Rattle.std.proofs.Common.{◌≡◌, ℕ, zero, suc, ◌+◌, ◌-◌, ◌<◌, ◌≤◌, Bool, true, false, not, ◌&&◌, ltb, leb, List, [], ◌∷◌, length, get_or, sym, ap, ◌∙◌, inl, inr, arith}
+use Rattle.std.proofs.Common.{◌≡◌, ℕ, zero, suc, ◌+◌, ◌-◌, ◌<◌, ◌≤◌, Bool, true, false, ltb, List, [], ◌∷◌, length, get_or, sym, ap, ◌∙◌, inl, inr, arith}
 use Rattle.std.proofs.lemmas.List.Sums.{prefix_len_passes}
 use Rattle.std.proofs.lemmas.Bool.Decides.{nat_tests}
 use Rattle.std.proofs.lemmas.Bool.{cases_lt, le-ltb}
@@ -62,19 +62,13 @@ module _ (f low high : ℕ) (xs : List ℕ) (few : outside low high xs ≤ f) (i
   abbrev here : ℕ
   here = get_or (sorted xs) i 0
 
-  not_under : here < low → ⊥
-  not_under h =
-      let all = all_pass_one (ltb here) (λ x. not (leb low x && leb x high)) xs (λ x e. grind (arith, nat_tests)) in
-      omega (arith, above_place xs i (omega arith))
-
-  not_over : high < here → ⊥
-  not_over h =
-      let all = all_pass_one (λ x. ltb x here) (λ x. not (leb low x && leb x high)) xs (λ x e. grind (arith, nat_tests)) in
-      omega (arith, below_place xs i (omega arith))
-
   within : (low ≤ here) × (here ≤ high)
   within =
-      (elim (cases_lt here low) [ inl h ↦ absurd (not_under h) | inr h ↦ h ], elim (cases_lt high here) [ inl h ↦ absurd (not_over h) | inr h ↦ h ])
+      let under : here < low → length xs ≤ count (ltb here) xs + outside low high xs = λ h. all_pass_one _ _ xs (λ x e. grind (arith, nat_tests)) in
+      let over : high < here → length xs ≤ count (λ x. ltb x here) xs + outside low high xs = λ h. all_pass_one _ _ xs (λ x e. grind (arith, nat_tests)) in
+      let above = above_place xs i (omega arith) in
+      let below = below_place xs i (omega arith) in
+      (grind arith, grind arith)
 
 pub holds : Holds
 holds f low high xs h few =
