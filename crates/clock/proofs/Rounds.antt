@@ -16,13 +16,6 @@ use Rattle.clock.specs.Theorems.{StaysTogether, StaysInWidth, Halves, ComesToget
 use Rattle.clock.specs.declared.limits.Cluster.{Cluster}
 use Rattle.clock.proofs.Nodes.{at_place, shared}
 
--- what is ahead by no more than d and another, as sums of numbers that are not signed
-crossed : (a b : Moment) (x y d : ℕ) → ahead a x ≤ℤ (ahead b y +ℤ pos d) → x + b.common ≤ y + a.common + d
-crossed a b x y d h = omega (arith, ints)
-
-uncrossed : (a b : Moment) (x y d : ℕ) → x + b.common ≤ y + a.common + d → ahead a x ≤ℤ (ahead b y +ℤ pos d)
-uncrossed a b x y d h = omega (arith, ints)
-
 -- readings of a cluster's nodes of which none comes to the limit are not turned away
 pub not_turned_away : (c : Cluster) (y : ℕ → ℕ) → ((q : ℕ) → q < c.nodes → y q < clock_limit) →
     first_applying (unusable c.faults (map y (range_with_len 0 c.nodes))) ≡ None
@@ -91,28 +84,13 @@ module _ (c : Cluster) (good : ℕ → Bool) (heard : ℕ → List (Option ℤ))
       (round.set p).shown + (before q).common ≤ (round.set q).shown + (before p).common + (d / 2 + 2 * error_of c + 1)
   set_closer d apart p q gp gq =
       let ((t, gt, over, under), (r, gr, high), (s, gs, low)) = tied p q gp gq in
-      omega (
-        arith,
-        is_set_to p gp,
-        is_set_to q gq,
-        crossed (before p) (before t) _ _ _ over,
-        crossed (before t) (before q) _ _ _ under,
-        crossed (before p) (before r) _ _ _ high,
-        crossed (before s) (before q) _ _ _ low,
-        crossed (before r) (before s) _ _ _ (apart r s gr gs),
-      )
+      omega (arith, ints, is_set_to p gp, is_set_to q gq, apart r s gr gs)
 
 pub halves : Halves
 halves c good heard before after d few round apart p q gp gq =
     let (up, _) = round.runs p gp in
     let (_, down) = round.runs q gq in
-    uncrossed (after p) (after q) _ _ _
-    (omega (
-      arith,
-      set_closer c good heard before after few round d apart p q gp gq,
-      crossed (after p) (before p) _ _ _ up,
-      crossed (before q) (after q) _ _ _ down,
-    ))
+    omega (arith, ints, set_closer c good heard before after few round d apart p q gp gq)
 
 -- a bound on how far good clocks are apart that a round keeps is kept by any number of them; it may change from round to round
 module _ (c : Cluster) (good : ℕ → Bool) (heard : ℕ → ℕ → List (Option ℤ)) (m : ℕ → ℕ → Moment) (few : FewBad c good) where

@@ -175,11 +175,12 @@ module _ (c : Clocks) (r : Round) (limits : KeepsLimits c r) where
       middle p ≤ middle q + (d / 2 + 2 * error_of c.cluster + 1)
   unfolding as_round
   set_near d p q apart gp gq =
-      let mp = shown_middle p gp in
-      let mq = shown_middle q gq in
-      let closer : (set p).shown + c.common ≤ (set q).shown + c.common + (d / 2 + 2 * error_of c.cluster + 1) =
-      set_closer c.cluster (good_in c) heard before _ limits.few as_round d (as_apart d apart) p q gp gq in
-      omega arith
+      omega (
+        arith,
+        shown_middle p gp,
+        shown_middle q gq,
+        set_closer c.cluster (good_in c) heard before _ limits.few as_round d (as_apart d apart) p q gp gq,
+      )
 
   -- a clock runs on by a round, but for the drift
   runs_on : (p : ℕ) → clocks.GoodNode c.cluster (good_in c) p →
