@@ -1,6 +1,6 @@
 -- A round that is played, as a round of clocks: what it makes of the good clocks is what the theorems of the clock say. Assumes nothing.
 use borrow.Author.Differences.{ints}
-use Rattle.std.proofs.Common.{◌≡◌, ℕ, zero, suc, ◌+◌, ◌-◌, ◌*◌, ◌/◌, ◌<◌, ◌≤◌, min, true, List, length, get_or, ℤ, nat_abs, None, Option, sym, refl, ap, ◌∙◌, subst, arith}
+use Rattle.std.proofs.Common.{◌≡◌, ℕ, zero, suc, ◌+◌, ◌-◌, ◌*◌, ◌/◌, ◌<◌, ◌≤◌, min, true, List, length, get_or, ℤ, nat_abs, None, Option, sym, refl, ap, ◌∙◌, arith}
 use Rattle.std.proofs.lemmas.List.FromFn.{length-map-range_with_len, get_or-map-range_with_len}
 use Rattle.std.proofs.lemmas.List.{get_or-map, length-map}
 use Rattle.std.proofs.lemmas.Bool.{eq-eqb}
@@ -13,7 +13,6 @@ use Rattle.clock.specs.Config.{error_of, bound_of}
 use Rattle.clock.specs.Deviation.{moved, largest}
 use Rattle.clock.specs.Setting.{reads, readings, untimely, next_round_of}
 use Rattle.clock.specs.Rounds as clocks
-use Rattle.clock.specs.Theorems.{rest_of}
 use Rattle.clock.specs.declared.limits.Clock.{Clock}
 use Rattle.clock.proofs.Rounds.{not_turned_away, set_closer}
 use Rattle.cluster.specs.Rounds.{player, drift_of, heard_by, all_read, run_on, Seen, Standing, seen, outcome, next_player, Plays, left_at}
@@ -211,6 +210,6 @@ stays_together c r (suc k) rounds apart =
     let same : (c (suc k)).cluster ≡ (c k).cluster = ap (λ l. l.cluster) (sym next) ∙ played.cluster in
     let near = halves (c k) (r k) (rounds.played k) (bound_of (c k).cluster) played (rounds.limits k (omega arith)) (stays_together c r k before apart) in
     λ p q a b s t.
-    let l = subst (λ l. Apart l (bound_of (c k).cluster / 2 + rest_of (c k).cluster)) next near p q a b s t in
+    let l = (rw next at near) p q a b s t in
     let e = ap bound_of same in
     omega arith
