@@ -1,5 +1,5 @@
 -- Tests over the nodes of a cluster, and what is read of them in rising order: two lists of readings share a good node. Assumes nothing.
-use Rattle.std.proofs.Common.{◌≡◌, ℕ, zero, suc, ◌+◌, ◌<◌, ◌≤◌, Bool, true, false, cond, not, ◌||◌, ltb, List, [], ◌∷◌, map, get_or, refl, ap, inl, inr, arith}
+use Rattle.std.proofs.Common.{◌≡◌, ℕ, zero, suc, ◌+◌, ◌<◌, ◌≤◌, Bool, true, false, not, ◌||◌, ltb, List, [], ◌∷◌, map, get_or, refl, inl, inr, arith}
 use Rattle.std.proofs.lemmas.List.FromFn.{length-map-range_with_len}
 use Rattle.std.proofs.lemmas.Bool.{cases_Bool}
 use Rattle.std.proofs.lemmas.Bool.Decides.{nat_tests}
@@ -14,7 +14,7 @@ use Rattle.clock.specs.declared.limits.Cluster.{Cluster}
 count_map : (test : ℕ → Bool) (f : ℕ → ℕ) (xs : List ℕ) → count test (map f xs) ≡ count (λ x. test (f x)) xs
 unfolding count
 count_map test f [] = refl
-count_map test f (x ∷ xs) = ap (λ n. cond (test (f x)) 1 0 + n) (count_map test f xs)
+count_map test f (x ∷ xs) = omega (arith, count_map test f xs)
 
 -- where three tests catch fewer than all of n nodes, they let one through
 let_through : (b c d : ℕ → Bool) (a n : ℕ) → count b (range_with_len a n) + (count c (range_with_len a n) + count d (range_with_len a n)) < n →

@@ -41,7 +41,7 @@ insert-count test x (y ∷ ys) = let ih = insert-count test x ys in grind (arith
 pub sorted-count : (test : ℕ → Bool) (xs : List ℕ) → count test (sorted xs) ≡ count test xs
 unfolding sorted count
 sorted-count test [] = refl
-sorted-count test (x ∷ xs) = insert-count test x (sorted xs) ∙ ap (λ n. cond (test x) 1 0 + n) (sorted-count test xs)
+sorted-count test (x ∷ xs) = omega (arith, insert-count test x (sorted xs), sorted-count test xs)
 
 all_pass : (xs : List ℕ) → count (λ _. true) xs ≡ length xs
 unfolding count
