@@ -1,35 +1,29 @@
 -- A round exists from any good clocks, for any errors, lies and running off that the cluster allows. Assumes nothing.
 use borrow.Author.Differences.{ints}
-use Rattle.std.proofs.Common.{◌≡◌, ℕ, ◌+◌, ◌-◌, ◌<◌, ◌≤◌, min, Bool, true, false, cond, eqb, List, [], ◌∷◌, map, ℤ, pos, negsuc, ◌+ℤ◌, ◌-ℤ◌, nat_abs, ◌≤ℤ◌, ◌<ℤ◌, Some, Option, sym, refl, ap, ◌∙◌, inl, inr, arith}
-use Rattle.std.proofs.lemmas.List.FromFn.{length-map-range_with_len}
+use Rattle.std.proofs.Common.{◌≡◌, ℕ, ◌+◌, ◌-◌, ◌<◌, ◌≤◌, min, Bool, true, false, cond, eqb, List, map, ℤ, pos, ◌+ℤ◌, ◌-ℤ◌, nat_abs, ◌≤ℤ◌, ◌<ℤ◌, Some, Option, sym, refl, ◌∙◌, inl, inr, arith}
 use Rattle.std.proofs.lemmas.Bool.{cases_Bool, eqb-false, ne_eqb}
 use Rattle.std.specs.List.{range_with_len}
 use Rattle.midpoint.specs.Midpoint.{midpoint}
-use Rattle.midpoint.specs.Order.{count}
 use Rattle.midpoint.specs.Setting.{clock_limit}
-use Rattle.midpoint.proofs.Ranks.{holds}
+use Rattle.midpoint.proofs.Sorting.{count_none}
 use Rattle.clock.specs.Config.{error_of}
-use Rattle.clock.specs.Deviation.{counted, moved}
+use Rattle.clock.specs.Deviation.{moved}
 use Rattle.clock.specs.Setting.{readings, reads, settled, next_round_of}
 use Rattle.clock.specs.Rounds.{Moment, ahead, lead, GoodNode, Round}
-use Rattle.clock.specs.Theorems.{IsSigned, LieFits, Start, CanBeChosen}
+use Rattle.clock.specs.Theorems.{IsSigned, LieFits, Start, Chosen}
 use Rattle.clock.specs.declared.limits.Clock.{Clock}
 use Rattle.clock.specs.declared.limits.Cluster.{Cluster}
 use Rattle.clock.proofs.Heard.{as_heard, heard_of, is_handed, lie_signed, lie_read}
-use Rattle.clock.proofs.Nodes.{few_outside}
+use Rattle.clock.proofs.Nodes.{midpoint_within}
 use Rattle.clock.proofs.Rounds.{not_turned_away}
 
 -- what no reading comes to here
 abbrev most : ℕ
 most = 800000000000
 
-counted_exact : (z : ℤ) → pos 0 ≤ℤ z → z <ℤ pos clock_limit → pos (counted z) ≡ z
-counted_exact (pos n) l h = ap pos (grind (arith, ints))
-counted_exact (negsuc n) l h = absurd (grind (arith, ints))
-
 -- a time that is moved to one that can be counted
 moved_exact : (time : ℕ) (by : ℤ) → pos 0 ≤ℤ (pos time +ℤ by) → (pos time +ℤ by) <ℤ pos clock_limit → pos (moved time by) ≡ pos time +ℤ by
-moved_exact time by l h = counted_exact (pos time +ℤ by) l h
+moved_exact time by l h = grind (arith, ints)
 
 -- the deviation by which a clock is read wrong by an error
 module _ (own at there at' : ℕ) (by : ℤ) (l : 10000000000 ≤ own) (h : own ≤ 400000000000)
@@ -38,16 +32,8 @@ module _ (own at there at' : ℕ) (by : ℤ) (l : 10000000000 ≤ own) (h : own 
   abbrev deviation : ℤ
   deviation = ((pos there -ℤ pos at') -ℤ (pos own -ℤ pos at)) +ℤ by
 
-  wrong_exact : pos (moved own deviation) ≡ pos own +ℤ deviation
-  wrong_exact = moved_exact own deviation (omega (arith, ints)) (omega (arith, ints))
-
   read_wrong : (moved own deviation < most) × (pos (moved own deviation) -ℤ pos at ≡ (pos there -ℤ pos at') +ℤ by)
-  read_wrong = let w = wrong_exact in (omega (arith, ints), omega (arith, ints))
-
-none_fails : (xs : List ℕ) → count (λ q. false) xs ≡ 0
-unfolding count
-none_fails [] = refl
-none_fails (x ∷ xs) = let ih = none_fails xs in omega arith
+  read_wrong = let w = moved_exact own deviation (omega (arith, ints)) (omega (arith, ints)) in (omega (arith, ints), omega (arith, ints))
 
 module _ (c : Cluster) (good : ℕ → Bool) (before : ℕ → Moment) (errors : ℕ → ℕ → ℤ) (lies : ℕ → ℕ → Option ℤ) (offs : ℕ → ℤ) (start : Start c good before)
     (small : (p q : ℕ) → nat_abs (errors p q) ≤ error_of c) (fits : (p q : ℕ) → LieFits (lies p q)) (steady : (p : ℕ) → nat_abs (offs p) ≤ c.drift) where
@@ -103,10 +89,8 @@ module _ (c : Cluster) (good : ℕ → Bool) (before : ℕ → Moment) (errors :
 
   middle_below : (p : ℕ) → GoodNode c good p → middle p ≤ most
   middle_below p g =
-      let out = few_outside c.nodes 0 most (λ q. true) (reading p) (λ q h t. let b = reads_below p q g h in (omega arith, omega arith)) in
-      let none = none_fails (range_with_len 0 c.nodes) in
-      let long = length-map-range_with_len (reading p) 0 c.nodes in
-      (holds c.faults 0 most (map (reading p) (range_with_len 0 c.nodes)) (omega (arith, c.tolerated)) (omega arith)).1
+      let none = count_none (λ q. false) (range_with_len 0 c.nodes) (λ i d h. refl) in
+      (midpoint_within c (λ q. true) (reading p) 0 most (omega arith) (λ q h t. let b = reads_below p q g h in (omega arith, omega arith))).1
 
   set_to : ℕ → Clock
   set_to p = record { shown = min (middle p) most; round = next_round_of (before p).clock.round; below = grind arith }
@@ -145,17 +129,15 @@ module _ (c : Cluster) (good : ℕ → Bool) (before : ℕ → Moment) (errors :
     counts = λ p g. refl;
   }
 
-pub can_be_chosen : CanBeChosen
-unfolding one_round
-can_be_chosen c good before errors lies offs start small fits steady = record {
-  heard = all_heard c good before errors lies offs start small fits steady;
-  after = run c good before errors lies offs start small fits steady;
-  round = one_round c good before errors lies offs start small fits steady;
-  handed = λ p g.
-      is_handed c.nodes c.most (hears c good before errors lies offs start small fits steady p)
-      (λ q h. fits_all c good before errors lies offs start small fits steady p q g h);
-  lied = λ p q h b. heard_of c.nodes c.most (hears c good before errors lies offs start small fits steady p) q h ∙ rw b;
-  erred = λ p q gp gq d. (reads_good c good before errors lies offs start small fits steady p q gp gq d).1;
-  ran = λ p g. runs_off c good before errors lies offs start small fits steady p;
-  later = λ p g. omega arith;
-}
+  pub chosen : Chosen c good before errors lies offs
+  unfolding one_round
+  chosen = record {
+    heard = all_heard;
+    after = run;
+    round = one_round;
+    handed = λ p g. is_handed c.nodes c.most (hears p) (λ q h. fits_all p q g h);
+    lied = λ p q h b. heard_of c.nodes c.most (hears p) q h ∙ rw b;
+    erred = λ p q gp gq d. (reads_good p q gp gq d).1;
+    ran = λ p g. runs_off p;
+    later = λ p g. omega arith;
+  }

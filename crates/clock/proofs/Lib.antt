@@ -1,7 +1,6 @@
 pub mod Arrays
 pub mod Choosable
 pub mod Heard
-pub mod Messages
 pub mod Nodes
 pub mod Possible
 pub mod Rounds

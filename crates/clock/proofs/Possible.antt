@@ -1,23 +1,19 @@
 -- Rounds as they are asked for exist, whatever the faulty nodes say: the good clocks show common time, and read each other as that. Assumes
 -- nothing.
 use borrow.Author.Differences.{ints}
-use Rattle.std.proofs.Common.{◌≡◌, ℕ, suc, ◌<◌, ◌≤◌, min, Bool, true, cond, List, map, ℤ, pos, Some, None, Option, sym, refl, ◌∙◌, inl, inr, arith}
-use Rattle.std.proofs.lemmas.List.FromFn.{length-map-range_with_len}
+use Rattle.std.proofs.Common.{◌≡◌, ℕ, suc, ◌<◌, ◌≤◌, min, Bool, true, cond, List, ℤ, pos, Some, Option, sym, refl, ◌∙◌, inl, inr, arith}
 use Rattle.std.proofs.lemmas.Bool.{cases_Bool}
 use Rattle.std.proofs.lemmas.Bool.Decides.{nat_tests}
-use Rattle.std.specs.List.{range_with_len}
 use Rattle.midpoint.specs.Midpoint.{midpoint}
-use Rattle.midpoint.specs.Refusals.{first_applying}
-use Rattle.midpoint.specs.Setting.{unusable, clock_limit}
-use Rattle.midpoint.specs.declared.refusal.Code.{Code}
-use Rattle.midpoint.proofs.Ranks.{holds}
-use Rattle.clock.specs.Setting.{readings, reads, unless}
+use Rattle.midpoint.specs.Setting.{clock_limit}
+use Rattle.clock.specs.Setting.{readings, reads}
 use Rattle.clock.specs.Rounds.{Moment, FewBad, Round}
-use Rattle.clock.specs.Theorems.{IsSigned, LieFits, CanBeRun}
+use Rattle.clock.specs.Theorems.{IsSigned, LieFits, Possible, CanBeRun}
 use Rattle.clock.specs.declared.limits.Clock.{Clock}
 use Rattle.clock.specs.declared.limits.Cluster.{Cluster}
 use Rattle.clock.proofs.Heard.{as_heard, heard_of, is_handed, lie_signed, lie_read}
-use Rattle.clock.proofs.Nodes.{few_outside}
+use Rattle.clock.proofs.Nodes.{midpoint_within}
+use Rattle.clock.proofs.Rounds.{not_turned_away}
 
 -- a clock that shows the number of its round, up to a number that is not reached
 abbrev last : ℕ
@@ -28,10 +24,6 @@ clock_at j = record { shown = min j last; round = j; below = grind arith }
 
 abbrev moment_at : ℕ → ℕ → Moment
 moment_at j p = record { common = j; clock = clock_at j }
-
-either_way : (o : Option Code) (own time : ℕ) → time ≡ own → own ≡ unless o time own
-either_way None own time e = sym e
-either_way (Some code) own time e = refl
 
 module _ (c : Cluster) (good : ℕ → Bool) (lies : ℕ → ℕ → ℕ → Option ℤ) (few : FewBad c good) (fits : (j p q : ℕ) → LieFits (lies j p q)) where
   -- good nodes are heard when they are due
@@ -62,13 +54,12 @@ module _ (c : Cluster) (good : ℕ → Bool) (lies : ℕ → ℕ → ℕ → Opt
   sets_to : (own j p : ℕ) → own ≤ last → midpoint c.faults (readings c.nodes p own (all_heard j p)) ≡ own
   unfolding readings
   sets_to own j p l =
-      let y : ℕ → ℕ = reads p own (all_heard j p) in
-      let few_out = few_outside c.nodes own own good y (λ q h g. let e = reads_good own j p q l h g in (omega arith, omega arith)) in
-      let long = length-map-range_with_len y 0 c.nodes in
-      let (a, b) = holds c.faults own own (map y (range_with_len 0 c.nodes)) (omega (arith, c.tolerated)) (omega arith) in
+      let (low, high) =
+      midpoint_within c good (reads p own (all_heard j p)) own own few (λ q h g. let e = reads_good own j p q l h g in (omega arith, omega arith)) in
       omega arith
 
   one_round : (j : ℕ) → j < last → Round c good (all_heard j) (moment_at j) (moment_at (suc j))
+  unfolding readings
   one_round j h =
       let own = min j last in
       let l : own ≤ last = grind arith in
@@ -77,19 +68,22 @@ module _ (c : Cluster) (good : ℕ → Bool) (lies : ℕ → ℕ → ℕ → Opt
         taken = λ p q g k. reads_below own j p q l k;
         set = λ p. record { shown = own; round = suc j; below = grind arith };
         sets = λ p g. record {
-          its_shown = either_way (first_applying (unusable c.faults (readings c.nodes p own (all_heard j p)))) own _ (sets_to own j p l);
+          its_shown = let u = not_turned_away c (reads p own (all_heard j p)) (λ q k. reads_below own j p q l k) in rw u (sym (sets_to own j p l));
           its_round = grind arith;
         };
         runs = λ p g. (omega (arith, ints), omega (arith, ints));
         counts = λ p g. refl;
       }
 
+  possible : (k : ℕ) → k < last → Possible c good lies k
+  possible k h = record {
+    heard = all_heard;
+    moments = moment_at;
+    together = λ p q gp gq. omega (arith, ints);
+    rounds = λ j l. one_round j (omega arith);
+    handed = λ j p. is_handed c.nodes c.most (hears j p) (λ q l. fits_all j p q);
+    lied = λ j p q l b. heard_of c.nodes c.most (hears j p) q l ∙ rw b;
+  }
+
 pub can_be_run : CanBeRun
-can_be_run c good lies k few fits h = record {
-  heard = all_heard c good lies few fits;
-  moments = moment_at;
-  together = λ p q gp gq. omega (arith, ints);
-  rounds = λ j l. one_round c good lies few fits j (omega arith);
-  handed = λ j p. is_handed c.nodes c.most (hears c good lies few fits j p) (λ q l. fits_all c good lies few fits j p q);
-  lied = λ j p q l b. heard_of c.nodes c.most (hears c good lies few fits j p) q l ∙ rw b;
-}
+can_be_run c good lies k few fits h = possible c good lies few fits k h

@@ -1,11 +1,12 @@
 -- What a round makes of the good clocks, and many rounds. Assumes nothing.
-use Rattle.std.proofs.Common.{◌≡◌, ℕ, zero, suc, ◌+◌, ◌-◌, ◌*◌, ◌/◌, ◌^◌, ◌<◌, ◌≤◌, Bool, not, eqb, List, map, ℤ, pos, ◌+ℤ◌, ◌≤ℤ◌, None, Option, sym, refl, ap, ◌∙◌, inl, inr, pow-suc, div-one, arith}
+use Rattle.std.proofs.Common.{◌≡◌, ℕ, zero, suc, ◌+◌, ◌-◌, ◌*◌, ◌/◌, ◌^◌, ◌<◌, ◌≤◌, Bool, not, eqb, List, map, ℤ, pos, ◌+ℤ◌, ◌≤ℤ◌, None, Option, sym, ap, ◌∙◌, inl, inr, pow-suc, div-one, arith}
 use native.Mathlib.Nat.{div-div-eq-div-mul}
 use borrow.Author.Differences.{ints}
-use Rattle.std.proofs.lemmas.List.FromFn.{length-map-range_with_len}
-use Rattle.std.proofs.lemmas.Bool.{cases_Bool, eqb-false, eqb-true, not-false}
+use Rattle.std.proofs.lemmas.List.FromFn.{length-map-range_with_len, get_or-map-range_with_len}
+use Rattle.std.proofs.lemmas.List.Sums.{prefix_len_is}
+use Rattle.std.proofs.lemmas.Bool.{cases_Bool, eqb-false, eqb-true, not-false, lt-ltb}
 use Rattle.std.proofs.lemmas.Bool.Decides.{nat_tests}
-use Rattle.std.specs.List.{range_with_len, prefix_len}
+use Rattle.std.specs.List.{range_with_len}
 use Rattle.midpoint.specs.Refusals.{first_applying}
 use Rattle.midpoint.specs.Setting.{unusable, shown, clock_limit}
 use Rattle.clock.specs.Config.{error_of, bound_of}
@@ -15,24 +16,15 @@ use Rattle.clock.specs.Theorems.{StaysTogether, StaysInWidth, Halves, ComesToget
 use Rattle.clock.specs.declared.limits.Cluster.{Cluster}
 use Rattle.clock.proofs.Nodes.{at_place, shared}
 
--- what is ahead by no more than d and another, as sums of numbers that are not signed
-crossed : (a b : Moment) (x y d : ℕ) → ahead a x ≤ℤ (ahead b y +ℤ pos d) → x + b.common ≤ y + a.common + d
-crossed a b x y d h = omega (arith, ints)
-
-uncrossed : (a b : Moment) (x y d : ℕ) → x + b.common ≤ y + a.common + d → ahead a x ≤ℤ (ahead b y +ℤ pos d)
-uncrossed a b x y d h = omega (arith, ints)
-
--- readings of which none comes to the limit
-all_shown : (y : ℕ → ℕ) (a n : ℕ) → ((q : ℕ) → q < a + n → y q < clock_limit) → prefix_len shown (map y (range_with_len a n)) ≡ n
-all_shown y a zero each = refl
-all_shown y a (suc n) each = let ih = all_shown y (a + 1) n (λ q h. each q (omega arith)) in let here = each a (omega arith) in grind (arith, nat_tests)
-
--- so the readings of a cluster's nodes are not turned away
+-- readings of a cluster's nodes of which none comes to the limit are not turned away
 pub not_turned_away : (c : Cluster) (y : ℕ → ℕ) → ((q : ℕ) → q < c.nodes → y q < clock_limit) →
     first_applying (unusable c.faults (map y (range_with_len 0 c.nodes))) ≡ None
 not_turned_away c y each =
-    let all = all_shown y 0 c.nodes (λ q h. each q (omega arith)) in
     let long = length-map-range_with_len y 0 c.nodes in
+    let all =
+    prefix_len_is shown (map y (range_with_len 0 c.nodes)) c.nodes 0 (omega arith)
+    (λ q h. let e = get_or-map-range_with_len y 0 c.nodes q q 0 h (omega arith) in rw e (lt-ltb (y q) clock_limit (each q h)))
+    (λ h. absurd (omega arith)) in
     let e = c.enough in
     let m = c.most in
     let t = c.tolerated in
@@ -87,34 +79,18 @@ module _ (c : Cluster) (good : ℕ → Bool) (heard : ℕ → List (Option ℤ))
       let (s, gs, _, low) = some_good q q 0 c.faults gq gq (omega arith) (omega arith) in
       (some_good p q c.faults top gp gq (omega arith) (omega arith), (r, gr, high), (s, gs, low))
 
--- what the settings leave them apart
-pub set_closer : (c : Cluster) (good : ℕ → Bool) (heard : ℕ → List (Option ℤ)) (before after : ℕ → Moment) (d : ℕ) → FewBad c good →
-    (round : Round c good heard before after) → Apart c good d before → (p q : ℕ) → GoodNode c good p → GoodNode c good q →
-    (round.set p).shown + (before q).common ≤ (round.set q).shown + (before p).common + (d / 2 + 2 * error_of c + 1)
-set_closer c good heard before after d few round apart p q gp gq =
-    let ((t, gt, over, under), (r, gr, high), (s, gs, low)) = tied c good heard before after few round p q gp gq in
-    omega (
-      arith,
-      is_set_to c good heard before after few round p gp,
-      is_set_to c good heard before after few round q gq,
-      crossed (before p) (before t) _ _ _ over,
-      crossed (before t) (before q) _ _ _ under,
-      crossed (before p) (before r) _ _ _ high,
-      crossed (before s) (before q) _ _ _ low,
-      crossed (before r) (before s) _ _ _ (apart r s gr gs),
-    )
+  -- what the settings leave them apart
+  pub set_closer : (d : ℕ) → Apart c good d before → (p q : ℕ) → GoodNode c good p → GoodNode c good q →
+      (round.set p).shown + (before q).common ≤ (round.set q).shown + (before p).common + (d / 2 + 2 * error_of c + 1)
+  set_closer d apart p q gp gq =
+      let ((t, gt, over, under), (r, gr, high), (s, gs, low)) = tied p q gp gq in
+      omega (arith, ints, is_set_to p gp, is_set_to q gq, apart r s gr gs)
 
 pub halves : Halves
 halves c good heard before after d few round apart p q gp gq =
     let (up, _) = round.runs p gp in
     let (_, down) = round.runs q gq in
-    uncrossed (after p) (after q) _ _ _
-    (omega (
-      arith,
-      set_closer c good heard before after d few round apart p q gp gq,
-      crossed (after p) (before p) _ _ _ up,
-      crossed (before q) (after q) _ _ _ down,
-    ))
+    omega (arith, ints, set_closer c good heard before after few round d apart p q gp gq)
 
 -- a bound on how far good clocks are apart that a round keeps is kept by any number of them; it may change from round to round
 module _ (c : Cluster) (good : ℕ → Bool) (heard : ℕ → ℕ → List (Option ℤ)) (m : ℕ → ℕ → Moment) (few : FewBad c good) where

@@ -1,6 +1,6 @@
 -- A round that is played, as a round of clocks: what it makes of the good clocks is what the theorems of the clock say. Assumes nothing.
 use borrow.Author.Differences.{ints}
-use Rattle.std.proofs.Common.{◌≡◌, ℕ, zero, suc, ◌+◌, ◌-◌, ◌*◌, ◌/◌, ◌<◌, ◌≤◌, min, true, List, length, get_or, ℤ, nat_abs, None, Option, sym, refl, ap, ◌∙◌, subst, arith}
+use Rattle.std.proofs.Common.{◌≡◌, ℕ, zero, suc, ◌+◌, ◌-◌, ◌*◌, ◌/◌, ◌<◌, ◌≤◌, min, true, List, length, get_or, ℤ, nat_abs, None, Option, sym, refl, ap, ◌∙◌, arith}
 use Rattle.std.proofs.lemmas.List.FromFn.{length-map-range_with_len, get_or-map-range_with_len}
 use Rattle.std.proofs.lemmas.List.{get_or-map, length-map}
 use Rattle.std.proofs.lemmas.Bool.{eq-eqb}
@@ -13,7 +13,6 @@ use Rattle.clock.specs.Config.{error_of, bound_of}
 use Rattle.clock.specs.Deviation.{moved, largest}
 use Rattle.clock.specs.Setting.{reads, readings, untimely, next_round_of}
 use Rattle.clock.specs.Rounds as clocks
-use Rattle.clock.specs.Theorems.{rest_of}
 use Rattle.clock.specs.declared.limits.Clock.{Clock}
 use Rattle.clock.proofs.Rounds.{not_turned_away, set_closer}
 use Rattle.cluster.specs.Rounds.{player, drift_of, heard_by, all_read, run_on, Seen, Standing, seen, outcome, next_player, Plays, left_at}
@@ -66,9 +65,9 @@ module _ (c : Clocks) (r : Round) (limits : KeepsLimits c r) where
   shows_time p a (h, e) = rw e
 
   reads_below : (p q : ℕ) → clocks.GoodNode c.cluster (good_in c) p → q < c.cluster.nodes → reads p (time_at p) (heard_by c r p (time_at p)) q < clock_limit
-  reads_below p q (h, g) k =
-      let (a, s) = shows c p (player c p) h refl g in
-      subst (λ t. reads p t (heard_by c r p t) q < clock_limit) (sym (shows_time p a s)) (limits.taken p q a s k)
+  reads_below p q g k =
+      let (a, s) = shows c p g in
+      rw (shows_time p a s) (limits.taken p q a s k)
 
   time_below : (p : ℕ) → clocks.GoodNode c.cluster (good_in c) p → time_at p < clock_limit
   time_below p g = let b = reads_below p p g g.0 in let e = eq-eqb p p refl in rw e at b
@@ -81,8 +80,11 @@ module _ (c : Clocks) (r : Round) (limits : KeepsLimits c r) where
   middle_below : (p : ℕ) → clocks.GoodNode c.cluster (good_in c) p → middle p < clock_limit
   middle_below p g = stays_shown c.cluster.faults (middle p) (all_read c r p (time_at p)) (usable p g, refl)
 
-  is_shown : (time : ℕ) → time < clock_limit → min time (clock_limit - 1) ≡ time
-  is_shown time h = grind arith
+  shown_time : (p : ℕ) → clocks.GoodNode c.cluster (good_in c) p → min (time_at p) (clock_limit - 1) ≡ time_at p
+  shown_time p g = let b = time_below p g in grind arith
+
+  shown_middle : (p : ℕ) → clocks.GoodNode c.cluster (good_in c) p → min (middle p) (clock_limit - 1) ≡ middle p
+  shown_middle p g = let b = middle_below p g in grind arith
 
   abbrev heard : ℕ → List (Option ℤ)
   heard p = heard_by c r p (time_at p)
@@ -93,8 +95,8 @@ module _ (c : Clocks) (r : Round) (limits : KeepsLimits c r) where
   reads_good : (p q : ℕ) → clocks.GoodNode c.cluster (good_in c) p → clocks.GoodNode c.cluster (good_in c) q → (p ≡ q → ⊥) →
       (time_at q ≤ reads p (time_at p) (heard p) q + error_of c.cluster) × (reads p (time_at p) (heard p) q ≤ time_at q + error_of c.cluster)
   reads_good p q gp gq d =
-      let (a, s) = shows c p (player c p) gp.0 refl gp.1 in
-      let (b, t) = shows c q (player c q) gq.0 refl gq.1 in
+      let (a, s) = shows c p gp in
+      let (b, t) = shows c q gq in
       let small : error_of c.cluster ≤ clock_limit = omega (arith, c.cluster.steady, c.cluster.exact) in
       let e = shows_time q b t in
       let (under, over) =
@@ -105,15 +107,14 @@ module _ (c : Clocks) (r : Round) (limits : KeepsLimits c r) where
   as_round : clocks.Round c.cluster (good_in c) heard before (λ p. record { common = c.common; clock = set p })
   as_round = record {
     fair = λ p q gp gq d.
-        let ep = is_shown (time_at p) (time_below p gp) in
-        let eq = is_shown (time_at q) (time_below q gq) in
-        let (under, over) = subst (λ t. (time_at q ≤ reads p t (heard p) q + error_of c.cluster) × (reads p t (heard p) q ≤ time_at q + error_of c.cluster)) (sym ep) (reads_good p q gp gq d) in
-        (omega (arith, ints), omega (arith, ints));
-    taken = λ p q g k. subst (λ t. reads p t (heard p) q < clock_limit) (sym (is_shown (time_at p) (time_below p g))) (reads_below p q g k);
+        let eq = shown_time q gq in
+        let (under, over) = reads_good p q gp gq d in
+        rw (shown_time p gp) (omega (arith, ints), omega (arith, ints));
+    taken = λ p q g k. rw (shown_time p g) (reads_below p q g k);
     set = set;
     sets = λ p g.
-        let e = is_shown (time_at p) (time_below p g) in
-        let m = is_shown (middle p) (middle_below p g) in
+        let e = shown_time p g in
+        let m = shown_middle p g in
         let u = usable p g in
         record { its_shown = rw (e, u) m; its_round = refl };
     runs = λ p g. (omega (arith, ints), omega (arith, ints));
@@ -129,8 +130,7 @@ module _ (c : Clocks) (r : Round) (limits : KeepsLimits c r) where
       let l = limits.timely p a (h, e) in
       let b = time_below p (h, g) in
       let timely : first_applying (untimely a.clock.shown p a.time) ≡ None = grind (arith, nat_tests) in
-      let usable_at : first_applying (unusable c.cluster.faults (all_read c r p a.time)) ≡ None =
-      subst (λ y. first_applying (unusable c.cluster.faults (all_read c r p y)) ≡ None) t u in
+      let usable_at = rw t at u in
       let at : middle p ≡ midpoint c.cluster.faults (all_read c r p a.time) = ap (λ y. midpoint c.cluster.faults (all_read c r p y)) t in
       rw (at, e, timely, usable_at)
 
@@ -163,28 +163,29 @@ module _ (c : Clocks) (r : Round) (limits : KeepsLimits c r) where
   -- good clocks that are no more than d apart, as moments
   as_apart : (d : ℕ) → Apart c d → clocks.Apart c.cluster (good_in c) d before
   as_apart d apart p q gp gq =
-      let (a, s) = shows c p (player c p) gp.0 refl gp.1 in
-      let (b, t) = shows c q (player c q) gq.0 refl gq.1 in
+      let (a, s) = shows c p gp in
+      let (b, t) = shows c q gq in
       let near = apart p q a b s t in
-      let ep = is_shown (time_at p) (time_below p gp) ∙ shows_time p a s in
-      let eq = is_shown (time_at q) (time_below q gq) ∙ shows_time q b t in
+      let ep = shown_time p gp ∙ shows_time p a s in
+      let eq = shown_time q gq ∙ shows_time q b t in
       omega (arith, ints)
 
   set_near : (d p q : ℕ) → Apart c d → clocks.GoodNode c.cluster (good_in c) p → clocks.GoodNode c.cluster (good_in c) q →
       middle p ≤ middle q + (d / 2 + 2 * error_of c.cluster + 1)
   unfolding as_round
   set_near d p q apart gp gq =
-      let mp = is_shown (middle p) (middle_below p gp) in
-      let mq = is_shown (middle q) (middle_below q gq) in
-      let closer : (set p).shown + c.common ≤ (set q).shown + c.common + (d / 2 + 2 * error_of c.cluster + 1) =
-      set_closer c.cluster (good_in c) heard before _ d limits.few as_round (as_apart d apart) p q gp gq in
-      omega arith
+      omega (
+        arith,
+        shown_middle p gp,
+        shown_middle q gq,
+        set_closer c.cluster (good_in c) heard before _ limits.few as_round d (as_apart d apart) p q gp gq,
+      )
 
   -- a clock runs on by a round, but for the drift
   runs_on : (p : ℕ) → clocks.GoodNode c.cluster (good_in c) p →
       (run_on c r p (middle p) ≤ middle p + c.span + c.cluster.drift) × (middle p + c.span ≤ run_on c r p (middle p) + c.cluster.drift)
   runs_on p g =
-      let (a, s) = shows c p (player c p) g.0 refl g.1 in
+      let (a, s) = shows c p g in
       moved_on (middle p) c.span c.cluster.drift (drift_of r p) (middle_below p g) (omega (arith, limits.counted)) (omega (arith, c.cluster.steady))
       (limits.drifts p a s)
 
@@ -209,6 +210,6 @@ stays_together c r (suc k) rounds apart =
     let same : (c (suc k)).cluster ≡ (c k).cluster = ap (λ l. l.cluster) (sym next) ∙ played.cluster in
     let near = halves (c k) (r k) (rounds.played k) (bound_of (c k).cluster) played (rounds.limits k (omega arith)) (stays_together c r k before apart) in
     λ p q a b s t.
-    let l = subst (λ l. Apart l (bound_of (c k).cluster / 2 + rest_of (c k).cluster)) next near p q a b s t in
+    let l = (rw next at near) p q a b s t in
     let e = ap bound_of same in
     omega arith

@@ -47,7 +47,7 @@ shown_by : (p : ℕ) (a : GoodNode) → Shows four p a → (a.time ≡ p + 1000)
 shown_by zero a (h, e) = let at : at_time 1000 ≡ a = cc in rw (← at) (omega arith, omega arith, refl)
 shown_by (suc zero) a (h, e) = let at : at_time 1001 ≡ a = cc in rw (← at) (omega arith, omega arith, refl)
 shown_by (suc (suc zero)) a (h, e) = let at : at_time 1002 ≡ a = cc in rw (← at) (omega arith, omega arith, refl)
-shown_by (suc (suc (suc zero))) a (h, e) = let z : ◌≡◌ {A = ℕ} 0 1 = cc in absurd (omega arith)
+shown_by (suc (suc (suc zero))) a (h, e) = absurd (cc)
 shown_by (suc (suc (suc (suc p)))) a (h, e) = absurd (omega arith)
 
 lie_below : (own : ℕ) (jitter : ℤ) (h : Heard ℕ) → own < 1003 → LieFits h → read_of own (told_by 0 own jitter Bad h) < clock_limit

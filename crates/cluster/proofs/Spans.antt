@@ -1,16 +1,16 @@
 -- What a good node reads of good nodes lies between the good clocks, but for what it reads wrong; so no more readings lie outside than there are
 -- bad nodes. Assumes nothing.
 use borrow.Author.Differences.{ints}
-use Rattle.std.proofs.Common.{◌≡◌, ℕ, ◌+◌, ◌-◌, ◌<◌, ◌≤◌, true, eqb, get_or, ℤ, nat_abs, None, sym, refl, ap, ◌∙◌, inl, inr, arith}
-use Rattle.std.proofs.lemmas.List.FromFn.{length-map-range_with_len, get_or-map-range_with_len}
+use Rattle.std.proofs.Common.{◌≡◌, ℕ, ◌+◌, ◌-◌, ◌<◌, ◌≤◌, true, eqb, get_or, ℤ, nat_abs, None, sym, refl, inl, inr, arith}
+use Rattle.std.proofs.lemmas.List.FromFn.{get_or-map-range_with_len}
 use Rattle.std.proofs.lemmas.Bool.{cases_Bool, eqb-true, eqb-false}
 use Rattle.std.proofs.lemmas.Bool.Decides.{nat_tests}
 use Rattle.midpoint.specs.Setting.{clock_limit}
-use Rattle.midpoint.proofs.Ranks.{holds}
 use Rattle.clock.specs.Deviation.{deviation_of, moved}
+use Rattle.clock.specs.Rounds as clocks
 use Rattle.clock.specs.Setting.{reads, readings}
-use Rattle.clock.proofs.Nodes.{few_outside}
-use Rattle.cluster.specs.Rounds.{player, jitter_of, told, heard_by, all_read}
+use Rattle.clock.proofs.Nodes.{midpoint_within}
+use Rattle.cluster.specs.Rounds.{player, jitter_of, told, heard_by}
 use Rattle.cluster.specs.Theorems.{good_in, Shows, NotPulledOut}
 use Rattle.cluster.specs.declared.round.Round.{Round}
 use Rattle.cluster.specs.declared.clocks.Clocks.{Clocks}
@@ -24,10 +24,12 @@ read_near : (own time most : ℕ) (jitter : ℤ) → own < clock_limit → time 
 read_near own time most jitter l h m n = (grind (arith, ints), grind (arith, ints))
 
 -- a node that is good shows something
-pub shows : (c : Clocks) (p : ℕ) (node : Player) → p < c.cluster.nodes → player c p ≡ node → good_in c p ≡ true →
-    (good : GoodNode) × Shows c p good
-shows c p Bad h e g = absurd (grind (arith, nat_tests))
-shows c p (Good good) h e g = (good, (h, e))
+shows_as : (c : Clocks) (p : ℕ) (node : Player) → p < c.cluster.nodes → player c p ≡ node → good_in c p ≡ true → (good : GoodNode) × Shows c p good
+shows_as c p Bad h e g = absurd (grind (arith, nat_tests))
+shows_as c p (Good good) h e g = (good, (h, e))
+
+pub shows : (c : Clocks) (p : ℕ) → clocks.GoodNode c.cluster (good_in c) p → (good : GoodNode) × Shows c p good
+shows c p (h, g) = shows_as c p (player c p) h refl g
 
 -- what is heard of a node of the cluster
 pub heard_at : (c : Clocks) (r : Round) (p own q : ℕ) → q < c.cluster.nodes → get_or (heard_by c r p own) q None ≡ told c r p own q
@@ -47,24 +49,16 @@ reads_near c r p own q most b l t m (h, e) itself near =
           rw (other, a, e) (read_near own b.time most (jitter_of r p q) l t m n)
     ]
 
-same_time : (c : Clocks) (p : ℕ) (a b : GoodNode) → player c p ≡ Good a → player c p ≡ Good b → a.time ≡ b.time
-same_time c p a b e f = let g : Good a ≡ Good b = sym e ∙ f in cc
-
 pub not_pulled_out : NotPulledOut
 unfolding readings
 not_pulled_out c r p low high most a few span fits small g near =
-    let y : ℕ → ℕ = reads p a.time (heard_by c r p a.time) in
     let (lx, hx) = span p a g in
-    let outer =
-    few_outside c.cluster.nodes (low - most) (high + most) (good_in c) y
+    let (l, h) =
+    midpoint_within c.cluster (good_in c) (reads p a.time (heard_by c r p a.time)) (low - most) (high + most) few
     (λ q h good.
-    let (b, s) = shows c q (player c q) h refl good in
+    let (b, s) = shows c q (h, good) in
     let (l, u) = span q b s in
     let (under, over) =
-    reads_near c r p a.time q most b (omega arith) (omega arith) small s
-    (λ e. same_time c q a b (ap (player c) (sym e) ∙ g.1) s.1) (near q b s) in
+    reads_near c r p a.time q most b (omega arith) (omega arith) small s (λ e. cc) (near q b s) in
     (omega arith, omega arith)) in
-    let long = length-map-range_with_len y 0 c.cluster.nodes in
-    let (l, h) =
-    holds c.cluster.faults (low - most) (high + most) (all_read c r p a.time) (omega (arith, c.cluster.tolerated)) (omega (arith, few)) in
     (omega arith, h)

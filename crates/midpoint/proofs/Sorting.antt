@@ -1,8 +1,10 @@
 -- Sorting keeps the numbers and puts them in rising order, and no other list does. Assumes nothing.
-use Rattle.std.proofs.Common.{◌≡◌, ℕ, zero, suc, ◌+◌, ◌<◌, ◌≤◌, Bool, true, cond, eqb, List, [], ◌∷◌, length, get_or, sum_by, sym, refl, ap, ◌∙◌, inl, inr, arith}
-use Rattle.std.proofs.lemmas.Bool.{cases_order, eq-eqb}
+use Rattle.std.proofs.Common.{◌≡◌, ℕ, zero, suc, ◌+◌, ◌<◌, ◌≤◌, Bool, true, false, cond, eqb, List, [], ◌∷◌, length, get_or, sym, refl, ap, ◌∙◌, inl, inr, arith}
+use Rattle.std.proofs.lemmas.Bool.{cases_order, eq-eqb, ne_eqb}
 use Rattle.std.proofs.lemmas.Bool.Decides.{nat_tests}
-use Rattle.std.proofs.lemmas.List.Sums.{sum_by-cons}
+use Rattle.std.proofs.lemmas.List.Sums.{sum_by-le, count_by-le-length}
+use Rattle.std.proofs.lemmas.List.Recursion.{is_sum_by}
+use Rattle.std.specs.List.{All, count_by}
 use Rattle.std.proofs.lemmas.List.Sorted.{sum_by-IsPermutation}
 use Rattle.std.specs.List.Sorted.{IsPermutation}
 use Rattle.midpoint.specs.Order.{insert, sorted, count, Rising, SameNumbers}
@@ -11,6 +13,24 @@ use Rattle.midpoint.specs.Order.{insert, sorted, count, Rising, SameNumbers}
 abbrev pub Rises : ℕ → List ℕ → Type 0
 Rises m [] = Unit {0}
 Rises m (x ∷ xs) = (m ≤ x) × Rises x xs
+
+-- std's count is the same number
+count_is : (test : ℕ → Bool) (xs : List ℕ) → count test xs ≡ count_by test xs
+unfolding count
+count_is test xs = is_sum_by (count test) (λ x. cond (test x) 1 0) refl (λ x xs. refl) xs
+
+pub count_le : (test : ℕ → Bool) (xs : List ℕ) → count test xs ≤ length xs
+count_le test xs = rw (count_is test xs) (count_by-le-length test xs)
+
+-- a test that none of a list passes
+pub count_none : (test : ℕ → Bool) (xs : List ℕ) → All (λ x. test x ≡ false) xs → count test xs ≡ 0
+count_none test xs fails =
+    let none = sum_by-le (λ x. cond (test x) 1 0) 0 xs (λ i d h. let e = fails i d h in rw e (omega arith)) in omega (arith, count_is test xs)
+
+-- a list whose elements have changed places has the same numbers
+pub count_shuffled : (test : ℕ → Bool) (xs ys : List ℕ) → IsPermutation xs ys → count test ys ≡ count test xs
+count_shuffled test xs ys moved =
+    count_is test ys ∙ sum_by-IsPermutation (λ x. cond (test x) 1 0) xs ys moved ∙ sym (count_is test xs)
 
 insert-count : (test : ℕ → Bool) (x : ℕ) (xs : List ℕ) → count test (insert x xs) ≡ cond (test x) 1 0 + count test xs
 unfolding insert count
@@ -21,7 +41,7 @@ insert-count test x (y ∷ ys) = let ih = insert-count test x ys in grind (arith
 pub sorted-count : (test : ℕ → Bool) (xs : List ℕ) → count test (sorted xs) ≡ count test xs
 unfolding sorted count
 sorted-count test [] = refl
-sorted-count test (x ∷ xs) = insert-count test x (sorted xs) ∙ ap (λ n. cond (test x) 1 0 + n) (sorted-count test xs)
+sorted-count test (x ∷ xs) = omega (arith, insert-count test x (sorted xs), sorted-count test xs)
 
 all_pass : (xs : List ℕ) → count (λ _. true) xs ≡ length xs
 unfolding count
@@ -30,11 +50,6 @@ all_pass (x ∷ xs) = omega (arith, all_pass xs)
 
 pub sorted-length : (xs : List ℕ) → length (sorted xs) ≡ length xs
 sorted-length xs = sym (all_pass (sorted xs)) ∙ sorted-count (λ _. true) xs ∙ all_pass xs
-
-pub count_le : (test : ℕ → Bool) (xs : List ℕ) → count test xs ≤ length xs
-unfolding count
-count_le test [] = omega arith
-count_le test (x ∷ xs) = let ih = count_le test xs in grind (arith, nat_tests)
 
 -- and leaves it in rising order
 insert_rises : (m x : ℕ) (xs : List ℕ) → m ≤ x → Rises m xs → Rises m (insert x xs)
@@ -47,44 +62,35 @@ unfolding sorted
 sorted_rises [] = tt
 sorted_rises (x ∷ xs) = insert_rises 0 x (sorted xs) (omega arith) (sorted_rises xs)
 
-pub at_least : (m : ℕ) (xs : List ℕ) (i : ℕ) → Rises m xs → i < length xs → m ≤ get_or xs i 0
-at_least m [] i r h = omega arith
-at_least m (x ∷ xs) zero r h = r.0
-at_least m (x ∷ xs) (suc i) r h = omega (arith, at_least x xs i r.1, r.0)
+pub at_least : (m : ℕ) (xs : List ℕ) (i d : ℕ) → Rises m xs → i < length xs → m ≤ get_or xs i d
+at_least m [] i d r h = omega arith
+at_least m (x ∷ xs) zero d r h = r.0
+at_least m (x ∷ xs) (suc i) d r h = omega (arith, at_least x xs i d r.1, r.0)
 
 -- the two ways to say that a list rises
 pub rising_from_rises : (m : ℕ) (xs : List ℕ) → Rises m xs → Rising xs
 rising_from_rises m [] r i j le h = omega arith
-rising_from_rises m (x ∷ xs) r zero zero le h = omega arith
-rising_from_rises m (x ∷ xs) r zero (suc j) le h = at_least x xs j r.1 (omega arith)
+rising_from_rises m (x ∷ xs) r zero j le h = at_least x (x ∷ xs) j 0 (omega arith, r.1) h
 rising_from_rises m (x ∷ xs) r (suc i) zero le h = omega arith
 rising_from_rises m (x ∷ xs) r (suc i) (suc j) le h = rising_from_rises x xs r.1 i j (omega arith) (omega arith)
 
-rises_behind : (x : ℕ) (xs : List ℕ) → Rising (x ∷ xs) → Rises x xs
-rises_behind x [] up = tt
-rises_behind x (y ∷ ys) up =
-    (up 0 1 (omega arith) (omega arith), rises_behind y ys (λ i j le h. up (suc i) (suc j) (omega arith) (omega arith)))
-
-pub rises_from_rising : (xs : List ℕ) → Rising xs → Rises 0 xs
-rises_from_rising [] up = tt
-rises_from_rising (x ∷ xs) up = (omega arith, rises_behind x xs up)
-
--- a number below all of a list does not stand in it
-none_below : (k m : ℕ) (xs : List ℕ) → k < m → Rises m xs → count (eqb k) xs ≡ 0
-unfolding count
-none_below k m [] h r = refl
-none_below k m (x ∷ xs) h r = let ih = none_below k x xs (omega (arith, r.0)) r.1 in grind (arith, nat_tests)
+rises_from_rising : (m : ℕ) (xs : List ℕ) → ((i : ℕ) → i < length xs → m ≤ get_or xs i 0) → Rising xs → Rises m xs
+rises_from_rising m [] low up = tt
+rises_from_rising m (x ∷ xs) low up = (
+  low 0 (omega arith),
+  rises_from_rising x xs (λ i h. up 0 (suc i) (omega arith) (omega arith)) (λ i j le h. up (suc i) (suc j) (omega arith) (omega arith)),
+)
 
 first_not_below : (x m : ℕ) (xs : List ℕ) (y : ℕ) (ys : List ℕ) → Rises m (y ∷ ys) → SameNumbers (x ∷ xs) (y ∷ ys) → x < y → ⊥
 unfolding count
 first_not_below x m xs y ys r same h =
-    let none = none_below x y (y ∷ ys) h (omega arith, r.1) in
+    let none = count_none (eqb x) (y ∷ ys) (λ i d k. ne_eqb x _ (λ e. omega (arith, at_least y (y ∷ ys) i d (omega arith, r.1) k))) in
     let here = eq-eqb x x refl in
     let both = same x in
     grind (arith, nat_tests)
 
 -- two lists that rise and have the same numbers are the same list
-pub same_rises : (m n : ℕ) (xs ys : List ℕ) → Rises m xs → Rises n ys → SameNumbers xs ys → xs ≡ ys
+same_rises : (m n : ℕ) (xs ys : List ℕ) → Rises m xs → Rises n ys → SameNumbers xs ys → xs ≡ ys
 unfolding count
 same_rises m n [] [] r s same = refl
 same_rises m n [] (y ∷ ys) r s same = let here = eq-eqb y y refl in let at = same y in absurd (grind (arith, nat_tests))
@@ -101,14 +107,4 @@ same_rises m n (x ∷ xs) (y ∷ ys) r s same =
 
 -- so a list that rises and has the numbers of another is that one sorted
 pub sorted_is : (xs ys : List ℕ) → Rising ys → SameNumbers ys xs → ys ≡ sorted xs
-sorted_is xs ys up same = same_rises 0 0 ys (sorted xs) (rises_from_rising ys up) (sorted_rises xs) (λ z. same z ∙ sym (sorted-count (eqb z) xs))
-
--- a list whose elements have changed places has the same numbers
-count_sum : (test : ℕ → Bool) (xs : List ℕ) → count test xs ≡ sum_by (λ x. cond (test x) 1 0) xs
-unfolding count
-count_sum test [] = refl
-count_sum test (x ∷ xs) = ap (λ n. cond (test x) 1 0 + n) (count_sum test xs) ∙ sym (sum_by-cons (λ y. cond (test y) 1 0) x xs)
-
-pub count_shuffled : (test : ℕ → Bool) (xs ys : List ℕ) → IsPermutation xs ys → count test ys ≡ count test xs
-count_shuffled test xs ys moved =
-    count_sum test ys ∙ sum_by-IsPermutation (λ x. cond (test x) 1 0) xs ys moved ∙ sym (count_sum test xs)
+sorted_is xs ys up same = same_rises 0 0 ys (sorted xs) (rises_from_rising 0 ys (λ i h. omega arith) up) (sorted_rises xs) (λ z. same z ∙ sym (sorted-count (eqb z) xs))
