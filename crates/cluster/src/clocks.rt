@@ -121,7 +121,7 @@ impl Clocks {
         let outcomes = self.outcomes(round);
         let clocks = Clocks {
             common: self.common.saturating_add(self.span),
-            players: outcomes.map(Player::from),
+            players: players_after(outcomes),
             ..self
         };
         Played { clocks, outcomes }
@@ -239,4 +239,11 @@ impl Ending<'_> {
         let drift = self.round.drift[self.node].unwrap_or(0);
         reading(time.saturating_add(self.clocks.span), drift)
     }
+}
+
+// The nodes in the next round.
+fn players_after(outcomes: [Outcome; MAX_NODES]) -> [Player; MAX_NODES]
+    ensures { result ≡ map next_player outcomes }
+{
+    outcomes.map(Player::from)
 }
