@@ -1,5 +1,5 @@
 -- What the lines of a script make of a cluster, and why one does not fit. Assumes nothing: these are definitions.
-use Rattle.std.specs.Prelude.{◌≡◌, ℕ, Bool, not, List, [], ◌∷◌, ◌++◌, ℤ, is_some, is_none, Some, None, ◌==◌, nat_lt, take, replicate, slice_index_or, slice_set, unsigned_abs}
+use Rattle.std.specs.Prelude.{◌≡◌, ℕ, ◌<◌, Bool, not, List, [], ◌∷◌, ◌++◌, ℤ, is_some, is_none, Some, None, ◌==◌, nat_lt, replicate, slice_index_or, slice_set, unsigned_abs}
 use Rattle.std.specs.List.{position_or_len}
 use Rattle.midpoint.specs.Refusals.{Row, refused_if}
 use Rattle.clock.specs.Config.{error_of}
@@ -18,7 +18,7 @@ use Rattle.bench.specs.declared.script.Running.{Running}
 abbrev pub past : Cluster → ℕ → Row Misfit
 past cluster node = refused_if (not (nat_lt node cluster.nodes)) (PastTheCluster node)
 
--- Naming: each node is named once. Where none of the cluster is left, the first that is not named is the number of its nodes.
+-- Naming: each node is named once. The first that is not named is the number of those before it that are.
 abbrev pub unnameable : Naming → ℕ → List (Row Misfit)
 unnameable s node = past s.cluster node ∷ refused_if (is_some (slice_index_or s.players node None)) (NamedTwice node) ∷ []
 
@@ -28,7 +28,7 @@ pub record Named (s : Naming) (node : ℕ) (player : Player) (t : Naming) : Type
   pub timing : t.timing ≡ s.timing
 
 abbrev pub first_unnamed : Naming → ℕ
-first_unnamed s = position_or_len is_none (take s.cluster.nodes s.players)
+first_unnamed s = position_or_len is_none s.players
 
 abbrev pub incomplete : Naming → List (Row Misfit)
 incomplete s = refused_if (nat_lt (first_unnamed s) s.cluster.nodes) (NotNamed (first_unnamed s)) ∷ []
@@ -46,6 +46,10 @@ not_good s node = unless_passed s node (not (is_bad (player s.clocks node))) (No
 -- A round of which the script has said nothing yet.
 abbrev pub nothing_said : Round
 nothing_said = record { heard = replicate 16 (replicate 16 Nothing); jitter = replicate 16 (replicate 16 None); drift = replicate 16 None }
+
+-- the index of a node, in arrays of 16
+abbrev pub IndexOf : ℕ → ℕ → Type 0
+IndexOf node i = (i ≡ node) × (i < 16)
 
 -- A message is of a bad node to a good one.
 abbrev pub unsayable : Running → ℕ → ℕ → List (Row Misfit)

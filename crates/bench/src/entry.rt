@@ -41,19 +41,36 @@ pub(crate) enum Entry {
     },
 }
 
+/// Numbers that a script writes, each type with its range.
+trait Ranged: FromStr {
+    const RANGE: Range;
+}
+
+impl Ranged for u64 {
+    const RANGE: Range = Range::Natural64;
+}
+
+impl Ranged for u32 {
+    const RANGE: Range = Range::Natural32;
+}
+
+impl Ranged for i64 {
+    const RANGE: Range = Range::Signed64;
+}
+
 // What a line says; nothing if there is only a comment on it.
 pub(crate) fn parse(line: &str) -> Result<Option<Entry>, Malformed<'_>> {
     let mut words = without_comment(line).split_whitespace();
     let Some(kind) = words.next() else {
         return Ok(None);
     };
-    // A match, and no table of closures: each word has a line of its own shape behind it.
+    // A match on words is plainer than a table of closures that is searched by hand.
     let entry = match kind {
         "cluster" => cluster(&mut words)?,
         "timing" => timing(&mut words)?,
         "good" => good(&mut words)?,
         "bad" => Entry::Bad {
-            node: natural(&mut words, "bad")?,
+            node: number(&mut words, "bad")?,
         },
         "round" => Entry::Round,
         "says" => says(&mut words)?,
@@ -92,7 +109,7 @@ fn timing<'a>(words: &mut SplitWhitespace<'a>) -> Result<Entry, Malformed<'a>> {
 }
 
 fn good<'a>(words: &mut SplitWhitespace<'a>) -> Result<Entry, Malformed<'a>> {
-    let node = natural(words, "good")?;
+    let node = number(words, "good")?;
     keyword(words, "value")?;
     value(words.next())?;
     let ahead = named(words, "ahead")?;
@@ -100,7 +117,7 @@ fn good<'a>(words: &mut SplitWhitespace<'a>) -> Result<Entry, Malformed<'a>> {
 }
 
 fn says<'a>(words: &mut SplitWhitespace<'a>) -> Result<Entry, Malformed<'a>> {
-    let from = natural(words, "says")?;
+    let from = number(words, "says")?;
     let to = named(words, "to")?;
     let ahead = named(words, "reading")?;
     keyword(words, "value")?;
@@ -112,15 +129,15 @@ fn says<'a>(words: &mut SplitWhitespace<'a>) -> Result<Entry, Malformed<'a>> {
 }
 
 fn jitter<'a>(words: &mut SplitWhitespace<'a>) -> Result<Entry, Malformed<'a>> {
-    let node = natural(words, "jitter")?;
+    let node = number(words, "jitter")?;
     let of = named(words, "of")?;
-    let by = by(words)?;
+    let by = named(words, "by")?;
     Ok(Entry::Jitter { node, of, by })
 }
 
 fn drift<'a>(words: &mut SplitWhitespace<'a>) -> Result<Entry, Malformed<'a>> {
-    let node = natural(words, "drift")?;
-    let by = by(words)?;
+    let node = number(words, "drift")?;
+    let by = named(words, "by")?;
     Ok(Entry::Drift { node, by })
 }
 
@@ -134,9 +151,15 @@ fn keyword<'a>(words: &mut SplitWhitespace<'a>, word: &'static str) -> Result<()
 }
 
 // A number behind its word.
-fn named<'a>(words: &mut SplitWhitespace<'a>, word: &'static str) -> Result<u64, Malformed<'a>> {
+fn named<'a, N: Ranged>(
+    words: &mut SplitWhitespace<'a>,
+    word: &'static str,
+) -> Result<N, Malformed<'a>>
+where
+    N::Err: Drop,
+{
     keyword(words, word)?;
-    natural(words, word)
+    number(words, word)
 }
 
 // Four numbers, each behind its word.
@@ -147,30 +170,30 @@ fn four<'a>(
     names.try_map(|name| named(words, name))
 }
 
-fn natural<'a>(words: &mut SplitWhitespace<'a>, after: &'static str) -> Result<u64, Malformed<'a>> {
-    number(words.next(), after, Range::Natural64)
-}
-
-// A signed number behind `by`.
-fn by<'a>(words: &mut SplitWhitespace<'a>) -> Result<i64, Malformed<'a>> {
-    keyword(words, "by")?;
-    number(words.next(), "by", Range::Signed64)
-}
-
-// One value of a frame.
-fn value<'a>(word: Option<&'a str>) -> Result<u32, Malformed<'a>> {
-    number(word, "value", Range::Natural32)
-}
-
-// The number that a word writes. The range is that of the type.
-fn number<'a, N: FromStr>(
-    word: Option<&'a str>,
+// The number that the next word writes.
+fn number<'a, N: Ranged>(
+    words: &mut SplitWhitespace<'a>,
     after: &'static str,
-    range: Range,
 ) -> Result<N, Malformed<'a>>
 where
     N::Err: Drop,
 {
+    parsed(words.next(), after)
+}
+
+// One value of a frame.
+fn value<'a>(word: Option<&'a str>) -> Result<u32, Malformed<'a>> {
+    parsed(word, "value")
+}
+
+// The number that a word writes.
+fn parsed<'a, N: Ranged>(word: Option<&'a str>, after: &'static str) -> Result<N, Malformed<'a>>
+where
+    N::Err: Drop,
+{
     word.and_then(|word| word.parse().ok())
-        .ok_or(Malformed::NotANumber { after, range })
+        .ok_or(Malformed::NotANumber {
+            after,
+            range: N::RANGE,
+        })
 }

@@ -80,6 +80,7 @@ pub(crate) enum Misfit {
     DriftTwice { node: u64 },
 }
 
+// By hand: it wraps twice.
 impl From<clock::Unfit> for Misfit {
     fn from(unfit: clock::Unfit) -> Self {
         Misfit::Refused(Unfit::from(unfit))
@@ -101,11 +102,5 @@ pub(crate) enum Fault<'a> {
     #[error("line {line}: {reason}")]
     Line { line: usize, reason: Reason<'a> },
     #[error("out of memory")]
-    Memory,
-}
-
-impl From<AllocError> for Fault<'_> {
-    fn from(_e: AllocError) -> Self {
-        Fault::Memory
-    }
+    Memory(#[from(alloc)] AllocError),
 }

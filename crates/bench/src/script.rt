@@ -5,13 +5,13 @@ ghost use Rattle.std.specs.Option.{unwrap_or};
 ghost use Rattle.midpoint.specs.Refusals.{ByRows};
 ghost use Rattle.cluster.specs.Rounds.{player};
 ghost use Rattle.cluster.specs.declared.clocks.Player.TheVariants.{Bad};
-ghost use Rattle.bench.specs.Script.{past, unless_passed, unnameable, Named, incomplete, not_good, not_bad, unsayable, Said, no_jitter, Jittered, no_drift, Drifted, nothing_said};
+ghost use Rattle.bench.specs.Script.{past, unless_passed, unnameable, Named, incomplete, not_good, not_bad, IndexOf, unsayable, Said, no_jitter, Jittered, no_drift, Drifted, nothing_said};
 
 use crate::entry;
 use crate::entry::Entry;
 use crate::reason::{Fault, Lines, Misfit};
 use clock::{Clock, Cluster};
-use cluster::{Clocks, GoodNode, Outcome, Played, Player, Round, Timing};
+use cluster::{Clocks, GoodClock, Outcome, Played, Player, Round, Timing};
 use midpoint::{Code, MAX_NODES};
 use std::alloc::{AllocError, Global};
 use std::fmt::Write;
@@ -30,6 +30,7 @@ enum Stage {
 struct Naming {
     cluster: Cluster,
     timing: Timing,
+    // as many places as `Clocks` has
     players: [Option<Player>; MAX_NODES],
 }
 
@@ -87,6 +88,7 @@ impl Stage {
     }
 
     // The file ends: the round under way ends too.
+    // A match again, for the same reason.
     fn end(self) -> Result<Option<Played>, Misfit> {
         match self {
             Stage::Start => Err(Misfit::Expected(Lines::Cluster)),
@@ -150,11 +152,12 @@ fn index(cluster: &Cluster, node: u64) -> Result<usize, Misfit>
 }
 
 impl Naming {
+    // A match, and no table of steps: each line holds something else.
     // At the end of the first round common time is 0, so a clock shows there how far it is ahead.
     fn take(self, entry: Entry) -> Result<Stage, Misfit> {
         match entry {
             Entry::Good { node, ahead } => {
-                let good = GoodNode {
+                let good = GoodClock {
                     clock: Clock::new(),
                     time: ahead,
                 };
@@ -187,19 +190,18 @@ impl Naming {
         ensures { ByRows (incomplete self.now) (λ e. e) (λ _. Unit {0}) result }
     {
         match self.first_unnamed() {
-            Some(node) => Err(Misfit::NotNamed { node: node as u64 }),
-            None => Ok(()),
+            Some(i) if (i as u64) < self.cluster.nodes() => {
+                Err(Misfit::NotNamed { node: i as u64 })
+            }
+            _ => Ok(()),
         }
     }
 
-    // The first node of the cluster that is not named.
+    // The first place that is not named.
     fn first_unnamed(&self) -> Option<usize>
-        ensures { result ≡ position is_none (take self.now.cluster.nodes self.now.players) }
+        ensures { result ≡ position is_none self.now.players }
     {
-        let nodes = self.cluster.nodes() as usize;
-        self.players[..nodes]
-            .iter()
-            .position(|player| player.is_none())
+        self.players.iter().position(|player| player.is_none())
     }
 
     // The nodes as they are named. What is not named, as past the cluster, is bad.
@@ -222,6 +224,7 @@ impl Running {
         }
     }
 
+    // A match again, for the same reason.
     fn take(self, entry: Entry) -> Result<Step, Misfit> {
         let running = match entry {
             Entry::Round => {
@@ -284,7 +287,7 @@ impl Running {
 
     // The index of a good node.
     fn good(&self, node: u64) -> Result<usize, Misfit>
-        ensures { ByRows (not_good self.now node) (λ e. e) (λ i. (i ≡ node) × (i < 16)) result }
+        ensures { ByRows (not_good self.now node) (λ e. e) (IndexOf node) result }
     {
         self.index_where(
             node,
@@ -295,7 +298,7 @@ impl Running {
 
     // The index of a bad node.
     fn bad(&self, node: u64) -> Result<usize, Misfit>
-        ensures { ByRows (not_bad self.now node) (λ e. e) (λ i. (i ≡ node) × (i < 16)) result }
+        ensures { ByRows (not_bad self.now node) (λ e. e) (IndexOf node) result }
     {
         self.index_where(
             node,
@@ -312,7 +315,7 @@ impl Running {
         misfit: Misfit,
     ) -> Result<usize, Misfit>
         requires { F.IsAlwaysCallable passes }
-        ensures { (passed : Bool) × (node < self.now.clocks.cluster.nodes → F.post passes (player self.now.clocks node) passed) × ByRows (unless_passed self.now node passed misfit) (λ e. e) (λ i. (i ≡ node) × (i < 16)) result }
+        ensures { (passed : Bool) × (node < self.now.clocks.cluster.nodes → F.post passes (player self.now.clocks node) passed) × ByRows (unless_passed self.now node passed misfit) (λ e. e) (IndexOf node) result }
     {
         let i = index(&self.clocks.cluster, node)?;
         if passes(self.clocks.players[i]) {

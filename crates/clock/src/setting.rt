@@ -84,7 +84,6 @@ impl Clock {
         Ok(())
     }
 
-    // What was heard is an array of 16, of which the cluster's nodes count: there is no heap.
     /// The end of a round, at the time that the clock shows: it is set to the midpoint of what this node reads
     /// of all nodes of the cluster. Of each node its deviation was heard, or nothing; then, and of itself, the
     /// node reads its own clock, so that there are always as many readings as nodes. Readings that are turned
@@ -93,7 +92,7 @@ impl Clock {
         self,
         cluster: &Cluster,
         node: usize,
-        heard: &[Option<i64>; MAX_NODES],
+        heard: &[Option<i64>],
     ) -> Step<Result<u64, midpoint::Refusal>>
         ensures answer { SetSays cluster.now.faults (readings cluster.now.nodes node self.shown heard.now) result.answer }
         ensures clock { SetBy cluster.now node self heard.now result.clock }
@@ -120,14 +119,14 @@ impl Clock {
     }
 
     // What the node reads of each node, and so of those of a cluster of any size.
-    fn readings(self, node: usize, heard: &[Option<i64>; MAX_NODES]) -> [u64; MAX_NODES]
+    fn readings(self, node: usize, heard: &[Option<i64>]) -> [u64; MAX_NODES]
         ensures { (nodes : ℕ) → nodes ≤ most_readings → take nodes result ≡ readings nodes node self.shown heard.now }
     {
         array::from_fn(|q| {
             if q == node {
                 self.shown
             } else {
-                self.read(heard[q])
+                self.read(heard.get(q).copied().flatten())
             }
         })
     }

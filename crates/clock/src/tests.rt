@@ -305,3 +305,16 @@ fn no_node_of_the_cluster(rt: HostRuntime) -> Result<(), Fail> {
     assert_eq!(rt; step.answer, Ok(1005));
     Ok(())
 }
+
+// Of nodes past the end of what was heard nothing was heard.
+#[test]
+fn shorter_than_the_cluster(rt: HostRuntime) -> Result<(), Fail> {
+    let cluster = Cluster::new(4, 1, 0, 0)?;
+    let step = clock_at(1010).set(&cluster, 2, &[Some(-10), Some(-6)]);
+    assert_eq!(rt; step.answer, Ok(1007));
+    shows(&rt, step.clock, 1007, 1);
+    let step = clock_at(1010).set(&cluster, 2, &[]);
+    assert_eq!(rt; step.answer, Ok(1010));
+    shows(&rt, step.clock, 1010, 1);
+    Ok(())
+}

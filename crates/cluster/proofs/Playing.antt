@@ -20,7 +20,7 @@ use Rattle.cluster.specs.Theorems.{good_in, Shows, KeepsLimits, Apart, Halves, R
 use Rattle.cluster.specs.declared.round.Round.{Round}
 use Rattle.cluster.specs.declared.clocks.Clocks.{Clocks}
 use Rattle.cluster.specs.declared.clocks.Played.{Played}
-use Rattle.cluster.specs.declared.clocks.GoodNode.{GoodNode}
+use Rattle.cluster.specs.declared.clocks.GoodClock.{GoodClock}
 use Rattle.cluster.specs.declared.clocks.Outcome.{Outcome}
 use Rattle.cluster.specs.declared.clocks.Outcome.TheVariants.{Idle, SetTo, Kept}
 use Rattle.cluster.specs.declared.clocks.Player.{Player}
@@ -32,12 +32,12 @@ time_of Bad = 0
 time_of (Good node) = node.time
 
 -- what the next round finds of a node that was set, and of one of which nothing was made
-found_set : (out : Outcome) (standing : Standing) (b : GoodNode) → seen out ≡ Seen.set_to standing → next_player out ≡ Good b → b.time ≡ standing.time
+found_set : (out : Outcome) (standing : Standing) (b : GoodClock) → seen out ≡ Seen.set_to standing → next_player out ≡ Good b → b.time ≡ standing.time
 found_set Idle standing b e f = cc
 found_set (SetTo node) standing b e f = cc
 found_set (Kept node refusal) standing b e f = cc
 
-found_idle : (out : Outcome) (b : GoodNode) → seen out ≡ Seen.idle → next_player out ≡ Good b → ⊥
+found_idle : (out : Outcome) (b : GoodClock) → seen out ≡ Seen.idle → next_player out ≡ Good b → ⊥
 found_idle Idle b e f = cc
 found_idle (SetTo node) b e f = cc
 found_idle (Kept node refusal) b e f = cc
@@ -61,7 +61,7 @@ module _ (c : Clocks) (r : Round) (limits : KeepsLimits c r) where
   abbrev before : ℕ → clocks.Moment
   before p = record { common = c.common; clock = below_limit (time_at p) }
 
-  shows_time : (p : ℕ) (a : GoodNode) → Shows c p a → time_at p ≡ a.time
+  shows_time : (p : ℕ) (a : GoodClock) → Shows c p a → time_at p ≡ a.time
   shows_time p a (h, e) = rw e
 
   reads_below : (p q : ℕ) → clocks.GoodNode c.cluster (good_in c) p → q < c.cluster.nodes → reads p (time_at p) (heard_by c r p (time_at p)) q < clock_limit
@@ -122,7 +122,7 @@ module _ (c : Clocks) (r : Round) (limits : KeepsLimits c r) where
   }
 
   -- a good node is set
-  is_set : (p : ℕ) (a : GoodNode) → Shows c p a → outcome c r p ≡ Seen.set_to (left_at c r p (middle p) a.clock.round)
+  is_set : (p : ℕ) (a : GoodClock) → Shows c p a → outcome c r p ≡ Seen.set_to (left_at c r p (middle p) a.clock.round)
   is_set p a (h, e) =
       let g : good_in c p ≡ true = rw e in
       let t = shows_time p a (h, e) in
@@ -151,7 +151,7 @@ module _ (c : Clocks) (r : Round) (limits : KeepsLimits c r) where
     next_at : (p : ℕ) → p < 16 → player played.clocks p ≡ next_player (out_of p)
     next_at p h = ap (λ l. get_or l p Bad) plays.players ∙ get_or-map next_player played.outcomes p Idle Bad (omega (arith, long))
 
-    was : (p : ℕ) (b : GoodNode) (node : Player) → p < c.cluster.nodes → player played.clocks p ≡ Good b → player c p ≡ node →
+    was : (p : ℕ) (b : GoodClock) (node : Player) → p < c.cluster.nodes → player played.clocks p ≡ Good b → player c p ≡ node →
         clocks.GoodNode c.cluster (good_in c) p × (b.time ≡ run_on c r p (middle p))
     was p b Bad h f e =
         let small : p < 16 = omega (arith, c.cluster.most) in

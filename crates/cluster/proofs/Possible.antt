@@ -12,7 +12,7 @@ use Rattle.schedule.specs.declared.heard.Heard.{Heard}
 use Rattle.schedule.specs.declared.heard.Heard.TheVariants.{Nothing, Once, Several}
 use Rattle.cluster.specs.declared.round.Round.{Round}
 use Rattle.cluster.specs.declared.clocks.Clocks.{Clocks}
-use Rattle.cluster.specs.declared.clocks.GoodNode.{GoodNode}
+use Rattle.cluster.specs.declared.clocks.GoodClock.{GoodClock}
 use Rattle.cluster.specs.declared.clocks.Player.TheVariants.{Good, Bad}
 use Rattle.cluster.proofs.Spans.{heard_at, reads_near}
 
@@ -20,7 +20,7 @@ use Rattle.cluster.proofs.Spans.{heard_at, reads_near}
 abbrev starts : Clock
 starts = record { shown = 0; round = 0; below = omega arith }
 
-abbrev at_time : ℕ → GoodNode
+abbrev at_time : ℕ → GoodClock
 at_time time = record { clock = starts; time = time }
 
 abbrev four : Clocks
@@ -43,7 +43,7 @@ four = record {
 }
 
 -- what its good nodes show
-shown_by : (p : ℕ) (a : GoodNode) → Shows four p a → (a.time ≡ p + 1000) × (p < 3) × (a.clock.shown ≡ 0)
+shown_by : (p : ℕ) (a : GoodClock) → Shows four p a → (a.time ≡ p + 1000) × (p < 3) × (a.clock.shown ≡ 0)
 shown_by zero a (h, e) = let at : at_time 1000 ≡ a = cc in rw (← at) (omega arith, omega arith, refl)
 shown_by (suc zero) a (h, e) = let at : at_time 1001 ≡ a = cc in rw (← at) (omega arith, omega arith, refl)
 shown_by (suc (suc zero)) a (h, e) = let at : at_time 1002 ≡ a = cc in rw (← at) (omega arith, omega arith, refl)
@@ -56,21 +56,21 @@ lie_below own jitter (Once ahead) l f = grind (arith, ints)
 lie_below own jitter Several l f = omega arith
 
 module _ (r : Round) (exact : (p q : ℕ) → jitter_of r p q ≡ pos 0) (lies : (p : ℕ) → LieFits (heard_of r p 3)) where
-  good_below : (p q : ℕ) (a b : GoodNode) → Shows four p a → Shows four q b → reads p a.time (heard_by four r p a.time) q < clock_limit
+  good_below : (p q : ℕ) (a b : GoodClock) → Shows four p a → Shows four q b → reads p a.time (heard_by four r p a.time) q < clock_limit
   good_below p q a b s t =
       let (ex, hp, _) = shown_by p a s in
       let (ey, hq, _) = shown_by q b t in
       let (_, over) = reads_near four r p a.time q 0 b (omega arith) (omega arith) (omega arith) t (λ e. omega arith) (λ d. omega (arith, ints, exact p q)) in
       omega arith
 
-  bad_below : (p : ℕ) (a : GoodNode) → Shows four p a → reads p a.time (heard_by four r p a.time) 3 < clock_limit
+  bad_below : (p : ℕ) (a : GoodClock) → Shows four p a → reads p a.time (heard_by four r p a.time) 3 < clock_limit
   bad_below p a s =
       let (ex, hp, _) = shown_by p a s in
       let e = heard_at four r p a.time 3 (omega arith) in
       let other : eqb 3 p ≡ false = ne_eqb 3 p (λ d. omega arith) in
       rw (other, e) (lie_below a.time (jitter_of r p 3) (heard_of r p 3) (omega arith) (lies p))
 
-  all_below : (p q : ℕ) (a : GoodNode) → Shows four p a → q < 4 → reads p a.time (heard_by four r p a.time) q < clock_limit
+  all_below : (p q : ℕ) (a : GoodClock) → Shows four p a → q < 4 → reads p a.time (heard_by four r p a.time) q < clock_limit
   all_below p zero a s h = good_below p 0 a (at_time 1000) s (omega arith, refl)
   all_below p (suc zero) a s h = good_below p 1 a (at_time 1001) s (omega arith, refl)
   all_below p (suc (suc zero)) a s h = good_below p 2 a (at_time 1002) s (omega arith, refl)

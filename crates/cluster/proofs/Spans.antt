@@ -14,7 +14,7 @@ use Rattle.cluster.specs.Rounds.{player, jitter_of, told, heard_by}
 use Rattle.cluster.specs.Theorems.{good_in, Shows, NotPulledOut}
 use Rattle.cluster.specs.declared.round.Round.{Round}
 use Rattle.cluster.specs.declared.clocks.Clocks.{Clocks}
-use Rattle.cluster.specs.declared.clocks.GoodNode.{GoodNode}
+use Rattle.cluster.specs.declared.clocks.GoodClock.{GoodClock}
 use Rattle.cluster.specs.declared.clocks.Player.{Player}
 use Rattle.cluster.specs.declared.clocks.Player.TheVariants.{Good, Bad}
 
@@ -24,11 +24,11 @@ read_near : (own time most : ℕ) (jitter : ℤ) → own < clock_limit → time 
 read_near own time most jitter l h m n = (grind (arith, ints), grind (arith, ints))
 
 -- a node that is good shows something
-shows_as : (c : Clocks) (p : ℕ) (node : Player) → p < c.cluster.nodes → player c p ≡ node → good_in c p ≡ true → (good : GoodNode) × Shows c p good
+shows_as : (c : Clocks) (p : ℕ) (node : Player) → p < c.cluster.nodes → player c p ≡ node → good_in c p ≡ true → (good : GoodClock) × Shows c p good
 shows_as c p Bad h e g = absurd (grind (arith, nat_tests))
 shows_as c p (Good good) h e g = (good, (h, e))
 
-pub shows : (c : Clocks) (p : ℕ) → clocks.GoodNode c.cluster (good_in c) p → (good : GoodNode) × Shows c p good
+pub shows : (c : Clocks) (p : ℕ) → clocks.GoodNode c.cluster (good_in c) p → (good : GoodClock) × Shows c p good
 shows c p (h, g) = shows_as c p (player c p) h refl g
 
 -- what is heard of a node of the cluster
@@ -37,7 +37,7 @@ unfolding heard_by
 heard_at c r p own q h = get_or-map-range_with_len (told c r p own) 0 16 q q None (omega (arith, c.cluster.most)) (omega arith)
 
 -- what a node reads of a good one, itself among them
-pub reads_near : (c : Clocks) (r : Round) (p own q most : ℕ) (b : GoodNode) → own < clock_limit → b.time < clock_limit → most ≤ clock_limit →
+pub reads_near : (c : Clocks) (r : Round) (p own q most : ℕ) (b : GoodClock) → own < clock_limit → b.time < clock_limit → most ≤ clock_limit →
     Shows c q b → (p ≡ q → own ≡ b.time) → ((p ≡ q → ⊥) → nat_abs (jitter_of r p q) ≤ most) →
     (b.time ≤ reads p own (heard_by c r p own) q + most) × (reads p own (heard_by c r p own) q ≤ b.time + most)
 reads_near c r p own q most b l t m (h, e) itself near =

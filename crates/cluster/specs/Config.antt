@@ -3,12 +3,11 @@ use Rattle.std.specs.Prelude.{◌≡◌, ℕ, ◌+◌, ◌||◌, List, [], ◌�
 use Rattle.midpoint.specs.Refusals.{Row, row}
 use Rattle.midpoint.specs.declared.refusal.Code.{Code}
 use Rattle.clock.specs.Config as numbers
+use Rattle.schedule.specs.Config as times
 use Rattle.clock.specs.declared.limits.Cluster.{Cluster}
-use Rattle.schedule.specs.declared.config.Unfit as of_slots
-use Rattle.schedule.specs.declared.config.Unfit.TheVariants.{PauseTooShort, LengthTooShort, LengthTooLong}
 use Rattle.cluster.specs.declared.limits.Timing.{Timing}
 use Rattle.cluster.specs.declared.config.Unfit.{Unfit}
-use Rattle.cluster.specs.declared.config.Unfit.TheVariants.{Numbers, Pause, Length}
+use Rattle.cluster.specs.declared.config.Unfit.TheVariants.{Numbers, Times}
 
 -- a pause in which clocks may not all be set yet; a slot that is too short for what goes on in it, or above 10^9
 abbrev pub unfit_timing : Cluster → ℕ → ℕ → ℕ → ℕ → List (Row Code)
@@ -20,14 +19,7 @@ unfit_timing c slot pause message wire =
 -- number and place of each refusal
 abbrev pub code_of : Unfit → Code
 code_of (Numbers unfit) = numbers.code_of unfit
-code_of Pause = record { number = 6; place = 0 }
-code_of Length = record { number = 6; place = 1 }
-
--- the refusal of a schedule's times, as one of these
-abbrev pub of_schedule : of_slots.Unfit → Unfit
-of_schedule PauseTooShort = Pause
-of_schedule LengthTooShort = Length
-of_schedule LengthTooLong = Length
+code_of (Times unfit) = times.code_of unfit
 
 pub record TimingOf (slot pause message wire : ℕ) (t : Timing) : Type 0 where
   pub its_slot : t.slot ≡ slot

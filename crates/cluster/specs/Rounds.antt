@@ -15,7 +15,7 @@ use Rattle.clock.specs.declared.limits.Clock.{Clock}
 use Rattle.schedule.specs.declared.heard.Heard.{Heard}
 use Rattle.schedule.specs.declared.heard.Heard.TheVariants.{Nothing, Once, Several}
 use Rattle.cluster.specs.declared.round.Round.{Round}
-use Rattle.cluster.specs.declared.clocks.GoodNode.{GoodNode}
+use Rattle.cluster.specs.declared.clocks.GoodClock.{GoodClock}
 use Rattle.cluster.specs.declared.clocks.Refusal.{Refusal}
 use Rattle.cluster.specs.declared.clocks.Refusal.TheVariants.{Time, Readings}
 use Rattle.cluster.specs.declared.clocks.Player.{Player}
@@ -105,11 +105,11 @@ settled c r p own round =
     set_or_kept c r p own round (midpoint c.cluster.faults (all_read c r p own)) (first_applying (unusable c.cluster.faults (all_read c r p own)))
 
 -- where its own time is turned away nothing is set, and the clock runs on
-abbrev pub timely_or_kept : Clocks → Round → ℕ → GoodNode → Option Code → Seen
+abbrev pub timely_or_kept : Clocks → Round → ℕ → GoodClock → Option Code → Seen
 timely_or_kept c r p node None = settled c r p node.time node.clock.round
 timely_or_kept c r p node (Some code) = Seen.kept (standing node.clock (run_on c r p node.time)) code
 
-abbrev pub ended : Clocks → Round → ℕ → GoodNode → Seen
+abbrev pub ended : Clocks → Round → ℕ → GoodClock → Seen
 ended c r p node = timely_or_kept c r p node (first_applying (untimely node.clock.shown p node.time))
 
 abbrev pub outcome_of : Clocks → Round → ℕ → Player → Seen

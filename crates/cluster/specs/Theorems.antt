@@ -14,14 +14,14 @@ use Rattle.schedule.specs.declared.heard.Heard.TheVariants.{Nothing, Once, Sever
 use Rattle.cluster.specs.declared.round.Round.{Round}
 use Rattle.cluster.specs.declared.clocks.Clocks.{Clocks}
 use Rattle.cluster.specs.declared.clocks.Played.{Played}
-use Rattle.cluster.specs.declared.clocks.GoodNode.{GoodNode}
+use Rattle.cluster.specs.declared.clocks.GoodClock.{GoodClock}
 use Rattle.cluster.specs.declared.clocks.Player.TheVariants.{Good}
 
 -- which nodes are good, and one of the cluster's that is, with its clock and what it shows as the round ends
 abbrev pub good_in : Clocks → ℕ → Bool
 good_in c q = not (is_bad (player c q))
 
-abbrev pub Shows : Clocks → ℕ → GoodNode → Type 0
+abbrev pub Shows : Clocks → ℕ → GoodClock → Type 0
 Shows c p node = (p < c.cluster.nodes) × (player c p ≡ Good node)
 
 -- A round in which the script keeps the cluster's limits: no more bad nodes than it allows; good nodes read each other wrong by no more than the
@@ -29,15 +29,15 @@ Shows c p node = (p < c.cluster.nodes) × (player c p ≡ Good node)
 -- are large enough for common time.
 pub record KeepsLimits (c : Clocks) (r : Round) : Type 0 where
   pub few : FewBad c.cluster (good_in c)
-  pub jitters : (p q : ℕ) (a b : GoodNode) → Shows c p a → Shows c q b → (p ≢ q) → unsigned_abs (jitter_of r p q) ≤ error_of c.cluster
-  pub drifts : (p : ℕ) (a : GoodNode) → Shows c p a → unsigned_abs (drift_of r p) ≤ c.cluster.drift
-  pub timely : (p : ℕ) (a : GoodNode) → Shows c p a → a.clock.shown ≤ a.time
-  pub taken : (p q : ℕ) (a : GoodNode) → Shows c p a → q < c.cluster.nodes → reads p a.time (heard_by c r p a.time) q < clock_limit
+  pub jitters : (p q : ℕ) (a b : GoodClock) → Shows c p a → Shows c q b → (p ≢ q) → unsigned_abs (jitter_of r p q) ≤ error_of c.cluster
+  pub drifts : (p : ℕ) (a : GoodClock) → Shows c p a → unsigned_abs (drift_of r p) ≤ c.cluster.drift
+  pub timely : (p : ℕ) (a : GoodClock) → Shows c p a → a.clock.shown ≤ a.time
+  pub taken : (p q : ℕ) (a : GoodClock) → Shows c p a → q < c.cluster.nodes → reads p a.time (heard_by c r p a.time) q < clock_limit
   pub counted : c.common + c.span + 2 * clock_limit ≤ largest
 
 -- good clocks are no more than d apart as the round ends
 abbrev pub Apart : Clocks → ℕ → Type 0
-Apart c d = (p q : ℕ) (a b : GoodNode) → Shows c p a → Shows c q b → a.time ≤ b.time + d
+Apart c d = (p q : ℕ) (a b : GoodClock) → Shows c p a → Shows c q b → a.time ≤ b.time + d
 
 -- Whatever the bad nodes say, a round halves what good clocks are apart, up to a rest.
 abbrev pub Halves : Type 0
@@ -59,12 +59,12 @@ StaysTogether =
 -- Nobody is pulled out: where the good clocks lie in a span, and a good node reads no other good one wrong by more than the most, the midpoint of
 -- what it reads lies in the span, but for the most.
 abbrev pub Spanned : Clocks → ℕ → ℕ → Type 0
-Spanned c low high = (q : ℕ) (b : GoodNode) → Shows c q b → (low ≤ b.time) × (b.time ≤ high)
+Spanned c low high = (q : ℕ) (b : GoodClock) → Shows c q b → (low ≤ b.time) × (b.time ≤ high)
 
 abbrev pub NotPulledOut : Type 0
 NotPulledOut =
-    (c : Clocks) (r : Round) (p low high most : ℕ) (a : GoodNode) → FewBad c.cluster (good_in c) → Spanned c low high → high < clock_limit →
-    most ≤ clock_limit → Shows c p a → ((q : ℕ) (b : GoodNode) → Shows c q b → (p ≢ q) → unsigned_abs (jitter_of r p q) ≤ most) →
+    (c : Clocks) (r : Round) (p low high most : ℕ) (a : GoodClock) → FewBad c.cluster (good_in c) → Spanned c low high → high < clock_limit →
+    most ≤ clock_limit → Shows c p a → ((q : ℕ) (b : GoodClock) → Shows c q b → (p ≢ q) → unsigned_abs (jitter_of r p q) ≤ most) →
     (low ≤ midpoint c.cluster.faults (all_read c r p a.time) + most) × (midpoint c.cluster.faults (all_read c r p a.time) ≤ high + most)
 
 -- a lie that comes to no more than half of the limit

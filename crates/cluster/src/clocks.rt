@@ -1,7 +1,6 @@
 //! The good clocks of a cluster, and what a round makes of them.
 ghost use Rattle.std.specs.Prelude.{◌≡◌, ◌*◌, ◌<◌, map, pos, ◌-ℤ◌};
 ghost use Rattle.cluster.specs.Rounds.{code_of, seen, run_on, told, heard_by, settled, ended, outcome, outcomes_of, next_player, Plays};
-ghost use Rattle.cluster.specs.declared.clocks.Refusal.TheVariants.{Time, Readings};
 
 use crate::limits::Timing;
 use crate::round::Round;
@@ -10,7 +9,7 @@ use midpoint::{Code, MAX_NODES};
 
 /// A good node: its clock as the last round left it, and what it shows as this one ends.
 #[derive(Clone, Copy)]
-pub struct GoodNode {
+pub struct GoodClock {
     pub clock: Clock,
     pub time: u64,
 }
@@ -20,7 +19,7 @@ pub struct GoodNode {
 #[derive(Clone, Copy)]
 pub enum Player {
     Bad,
-    Good(GoodNode),
+    Good(GoodClock),
 }
 
 /// What a round makes of a node: nothing of a bad one, and of a good one the node in the next round, its
@@ -28,8 +27,8 @@ pub enum Player {
 #[derive(Clone, Copy)]
 pub enum Outcome {
     Idle,
-    SetTo(GoodNode),
-    Kept(GoodNode, Refusal),
+    SetTo(GoodClock),
+    Kept(GoodClock, Refusal),
 }
 
 /// Why a good node's clock was not set: the time that it shows, or what it reads, was turned away.
@@ -37,22 +36,6 @@ pub enum Outcome {
 pub enum Refusal {
     Time(clock::Refusal),
     Readings(midpoint::Refusal),
-}
-
-impl From<clock::Refusal> for Refusal {
-    ghost from_gives = { λ refusal result. result ≡ Time refusal };
-
-    fn from(refusal: clock::Refusal) -> Refusal {
-        Refusal::Time(refusal)
-    }
-}
-
-impl From<midpoint::Refusal> for Refusal {
-    ghost from_gives = { λ refusal result. result ≡ Readings refusal };
-
-    fn from(refusal: midpoint::Refusal) -> Refusal {
-        Refusal::Readings(refusal)
-    }
 }
 
 /// The number and place of a refusal in the fixed list.
@@ -79,7 +62,7 @@ impl From<Outcome> for Player {
     }
 }
 
-// Arrays of 16, of which the cluster's nodes count: there is no heap.
+// Arrays of 16, of which the cluster's nodes count: a `Vec` may not be had, and what is done with these cannot fail.
 /// A cluster at the end of a round: common time, which no node knows, how long a round lasts in it, and
 /// the nodes. What stands past the cluster's nodes is read by none of them.
 #[derive(Clone, Copy)]
@@ -167,6 +150,7 @@ impl Ending<'_> {
     fn outcome(&self) -> Outcome
         ensures { seen result ≡ outcome self.now.clocks.now self.now.round.now self.now.node }
     {
+        // A name of their own: read through two references, the array's length is not seen.
         let clocks = self.clocks;
         match clocks.players[self.node] {
             Player::Bad => Outcome::Idle,
@@ -175,18 +159,18 @@ impl Ending<'_> {
     }
 
     // What it makes of a good one.
-    fn ended(&self, good: GoodNode) -> Outcome
+    fn ended(&self, good: GoodClock) -> Outcome
         ensures { seen result ≡ ended self.now.clocks.now self.now.round.now self.now.node good }
     {
         let step = good.clock.go_on(self.node, good.time);
         match step.answer {
             Ok(()) => self.settled(step.clock),
             Err(refusal) => {
-                let good = GoodNode {
+                let good = GoodClock {
                     clock: step.clock,
                     time: self.run_on(good.time),
                 };
-                Outcome::Kept(good, Refusal::from(refusal))
+                Outcome::Kept(good, Refusal::Time(refusal))
             }
         }
     }
@@ -197,13 +181,13 @@ impl Ending<'_> {
     {
         let heard = self.heard(clock.shown());
         let step = clock.set(&self.clocks.cluster, self.node, &heard);
-        let good = GoodNode {
+        let good = GoodClock {
             clock: step.clock,
             time: self.run_on(step.clock.shown()),
         };
         match step.answer {
             Ok(_) => Outcome::SetTo(good),
-            Err(refusal) => Outcome::Kept(good, Refusal::from(refusal)),
+            Err(refusal) => Outcome::Kept(good, Refusal::Readings(refusal)),
         }
     }
 

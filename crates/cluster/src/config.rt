@@ -1,8 +1,8 @@
 //! Configurations, and why one is turned away.
 ghost use Rattle.std.specs.Prelude.{◌≡◌};
 ghost use Rattle.midpoint.specs.Refusals.{ByRows};
-ghost use Rattle.cluster.specs.Config.{code_of, of_schedule, TimingOf, unfit_timing};
-ghost use Rattle.cluster.specs.declared.config.Unfit.TheVariants.{Numbers};
+ghost use Rattle.cluster.specs.Config.{code_of, TimingOf, unfit_timing};
+ghost use Rattle.cluster.specs.declared.config.Unfit.TheVariants.{Numbers, Times};
 
 use crate::limits::Timing;
 use clock::Cluster;
@@ -15,12 +15,11 @@ use std::fmt;
 pub enum Unfit {
     /// There is no cluster with these numbers.
     Numbers(clock::Unfit),
-    /// The pause is too short.
-    Pause,
-    /// The length of a slot is too short, or above 10^9.
-    Length,
+    /// There is no schedule of it with these times.
+    Times(schedule::Unfit),
 }
 
+// By hand, as the next: what a derive writes has no contract.
 impl From<clock::Unfit> for Unfit {
     ghost from_gives = { λ why unfit. unfit ≡ Numbers why };
 
@@ -30,13 +29,10 @@ impl From<clock::Unfit> for Unfit {
 }
 
 impl From<schedule::Unfit> for Unfit {
-    ghost from_gives = { λ why unfit. unfit ≡ of_schedule why };
+    ghost from_gives = { λ why unfit. unfit ≡ Times why };
 
     fn from(why: schedule::Unfit) -> Unfit {
-        match why {
-            schedule::Unfit::PauseTooShort => Unfit::Pause,
-            schedule::Unfit::LengthTooShort | schedule::Unfit::LengthTooLong => Unfit::Length,
-        }
+        Unfit::Times(why)
     }
 }
 
@@ -47,31 +43,25 @@ impl From<Unfit> for Code {
     fn from(unfit: Unfit) -> Code {
         match unfit {
             Unfit::Numbers(unfit) => Code::from(unfit),
-            Unfit::Pause => Code {
-                number: 6,
-                place: 0,
-            },
-            Unfit::Length => Code {
-                number: 6,
-                place: 1,
-            },
+            Unfit::Times(unfit) => Code::from(unfit),
         }
     }
 }
 
-// By hand: the number and the place come first, which a derive would have to work out for each case.
+// By hand: the number and the place come first, and of a length the words are the same for both reasons.
 impl fmt::Display for Unfit {
     fn fmt<W: fmt::Write>(&self, f: &mut fmt::Formatter<W>) -> fmt::Result {
         let Code { number, place } = Code::from(*self);
         write!(f, "refused {number} at {place}: ")?;
         match self {
             Unfit::Numbers(unfit) => write!(f, "{unfit}"),
-            Unfit::Pause => f.write_str(
-                "the pause is shorter than width, error and drift together",
-            ),
-            Unfit::Length => f.write_str(
-                "the length is above 10^9, or shorter than pause, wire, width and message together",
-            ),
+            Unfit::Times(schedule::Unfit::PauseTooShort) => {
+                write!(f, "{}", schedule::Unfit::PauseTooShort)
+            }
+            Unfit::Times(schedule::Unfit::LengthTooShort | schedule::Unfit::LengthTooLong) =>
+                f.write_str(
+                    "the length is above 10^9, or shorter than pause, wire, width and message together",
+                ),
         }
     }
 }

@@ -15,7 +15,7 @@ pub mod limits;
 pub mod round;
 pub mod theorems;
 
-pub use clocks::{Clocks, GoodNode, Outcome, Played, Player, Refusal};
+pub use clocks::{Clocks, GoodClock, Outcome, Played, Player, Refusal};
 pub use config::Unfit;
 pub use limits::Timing;
 pub use round::Round;

@@ -2,7 +2,7 @@
 //! that makes it, since an invariant cannot import a specification that names its type.
 ghost use Rattle.std.specs.Prelude.{◌≤◌};
 
-// Not a schedule: its limits are narrower, and a cluster of numbers is made with times that have this one only.
+// Not a `Schedule`, whose limits are narrower: nobody who makes `Clocks` is asked to show more than this one.
 /// The length of a slot, the pause at its beginning, and the longest that a message lasts and is on
 /// its way.
 #[derive(Clone, Copy)]

@@ -5,7 +5,7 @@ ghost use Rattle.midpoint.specs.Order.{sorted};
 /// The most nodes of a cluster, and so the most readings that a node has.
 pub const MAX_NODES: usize = 16;
 
-// An array with a count beside it: there is no heap, and the readings are handed back by value.
+// An array with a count beside it: so the form is asked for, by value, put in order and handed back.
 /// The first `count` readings in rising order, and those behind them as they were. A count above 16
 /// means all of them.
 pub fn in_order(mut readings: [u64; MAX_NODES], count: usize) -> [u64; MAX_NODES]

@@ -5,10 +5,6 @@ use crate::setting::set_clock;
 
 const LAST: u64 = 999_999_999_999;
 
-fn refused(refusal: Refusal) -> Result<u64, Refusal> {
-    Err(refusal)
-}
-
 #[test]
 fn worked_cases(rt: HostRuntime) {
     assert_eq!(rt; set_clock(1, &[100, 104, 97, 900]), Ok(102));
@@ -35,15 +31,12 @@ fn halves_are_rounded_down(rt: HostRuntime) {
 
 #[test]
 fn number_of_readings(rt: HostRuntime) {
-    assert_eq!(rt;
-        set_clock(0, &[]),
-        refused(Refusal::ReadingCount { count: 0 })
-    );
+    assert_eq!(rt; set_clock(0, &[]), Err(Refusal::ReadingCount { count: 0 }));
     assert_eq!(rt; set_clock(0, &[9]), Ok(9));
     assert_eq!(rt; set_clock(3, &[9; 16]), Ok(9));
     assert_eq!(rt;
         set_clock(0, &[9; 17]),
-        refused(Refusal::ReadingCount { count: 17 })
+        Err(Refusal::ReadingCount { count: 17 })
     );
 }
 
@@ -51,23 +44,23 @@ fn number_of_readings(rt: HostRuntime) {
 fn three_times_the_faults(rt: HostRuntime) {
     assert_eq!(rt;
         set_clock(1, &[1, 2, 3]),
-        refused(Refusal::TooManyFaults { faults: 1 })
+        Err(Refusal::TooManyFaults { faults: 1 })
     );
     assert_eq!(rt; set_clock(1, &[1, 2, 3, 4]), Ok(2));
     assert_eq!(rt;
         set_clock(5, &[8; 15]),
-        refused(Refusal::TooManyFaults { faults: 5 })
+        Err(Refusal::TooManyFaults { faults: 5 })
     );
     assert_eq!(rt; set_clock(5, &[8; 16]), Ok(8));
     assert_eq!(rt;
         set_clock(u64::MAX, &[8; 16]),
-        refused(Refusal::TooManyFaults { faults: u64::MAX })
+        Err(Refusal::TooManyFaults { faults: u64::MAX })
     );
     // three times this is 2 more than 2^64
     let wraps = 6_148_914_691_236_517_206;
     assert_eq!(rt;
         set_clock(wraps, &[8; 16]),
-        refused(Refusal::TooManyFaults { faults: wraps })
+        Err(Refusal::TooManyFaults { faults: wraps })
     );
 }
 
@@ -76,22 +69,22 @@ fn readings_past_the_limit(rt: HostRuntime) {
     assert_eq!(rt; set_clock(1, &[LAST, 1, 2, LAST]), Ok(500_000_000_000));
     assert_eq!(rt;
         set_clock(1, &[LAST + 1, 1, 2, 3]),
-        refused(Refusal::ReadingTooLarge { index: 0 })
+        Err(Refusal::ReadingTooLarge { index: 0 })
     );
     assert_eq!(rt;
         set_clock(1, &[1, 2, 3, LAST + 1]),
-        refused(Refusal::ReadingTooLarge { index: 3 })
+        Err(Refusal::ReadingTooLarge { index: 3 })
     );
     assert_eq!(rt;
         set_clock(1, &[1, u64::MAX, 3, LAST + 1]),
-        refused(Refusal::ReadingTooLarge { index: 1 })
+        Err(Refusal::ReadingTooLarge { index: 1 })
     );
     let mut all = [LAST; 16];
     assert_eq!(rt; set_clock(0, &all), Ok(LAST));
     all[15] = LAST + 1;
     assert_eq!(rt;
         set_clock(0, &all),
-        refused(Refusal::ReadingTooLarge { index: 15 })
+        Err(Refusal::ReadingTooLarge { index: 15 })
     );
 }
 
@@ -99,15 +92,15 @@ fn readings_past_the_limit(rt: HostRuntime) {
 fn first_number_wins(rt: HostRuntime) {
     assert_eq!(rt;
         set_clock(u64::MAX, &[]),
-        refused(Refusal::ReadingCount { count: 0 })
+        Err(Refusal::ReadingCount { count: 0 })
     );
     assert_eq!(rt;
         set_clock(9, &[u64::MAX; 17]),
-        refused(Refusal::ReadingCount { count: 17 })
+        Err(Refusal::ReadingCount { count: 17 })
     );
     assert_eq!(rt;
         set_clock(1, &[u64::MAX; 3]),
-        refused(Refusal::TooManyFaults { faults: 1 })
+        Err(Refusal::TooManyFaults { faults: 1 })
     );
 }
 
