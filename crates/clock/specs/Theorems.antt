@@ -59,7 +59,7 @@ ReadsAsSaid =
     (own + due - began < clock_limit → moved own (deviation_of due began) ≡ own + due - began)
     × (clock_limit ≤ own + due - began → clock_limit ≤ moved own (deviation_of due began))
 
--- What the setting is handed: 16 deviations, each, where there is one, a number of 64 bits with a sign.
+-- What the setting may be handed: for each of 16 nodes a deviation or nothing, and a deviation is a number of 64 bits with a sign.
 abbrev pub IsSigned : Option ℤ → Type 0
 IsSigned None = Unit {0}
 IsSigned (Some deviation) = (smallest_signed ≤ℤ deviation) × (deviation ≤ℤ largest_signed)
