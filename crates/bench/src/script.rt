@@ -88,7 +88,7 @@ impl Stage {
     }
 
     // The file ends: the round under way ends too.
-    // A match again, for the same reason.
+    // A match, and no table of steps: each stage holds something else.
     fn end(self) -> Result<Option<Played>, Misfit> {
         match self {
             Stage::Start => Err(Misfit::Expected(Lines::Cluster)),
@@ -224,7 +224,7 @@ impl Running {
         }
     }
 
-    // A match again, for the same reason.
+    // A match, and no table of steps: each line holds something else.
     fn take(self, entry: Entry) -> Result<Step, Misfit> {
         let running = match entry {
             Entry::Round => {

@@ -85,9 +85,10 @@ impl Clock {
     }
 
     /// The end of a round, at the time that the clock shows: it is set to the midpoint of what this node reads
-    /// of all nodes of the cluster. Of each node its deviation was heard, or nothing; then, and of itself, the
-    /// node reads its own clock, so that there are always as many readings as nodes. Readings that are turned
-    /// away leave the clock as it is. The round counts on in both cases, up to 2^64 - 1.
+    /// of all nodes of the cluster. Of each node its deviation was heard, or nothing, as of those past the
+    /// slice's end; then, and of itself, the node reads its own clock, so that there are always as many readings
+    /// as nodes. Readings that are turned away leave the clock as it is. The round counts on in both cases, up
+    /// to 2^64 - 1.
     pub fn set(
         self,
         cluster: &Cluster,

@@ -7,7 +7,7 @@ use crate::round::Round;
 use clock::{Clock, Cluster, deviation, reading};
 use midpoint::{Code, MAX_NODES};
 
-/// A good node: its clock as the last round left it, and what it shows as this one ends.
+/// A good node's clock, as the last round left it, and what it shows as this one ends.
 #[derive(Clone, Copy)]
 pub struct GoodClock {
     pub clock: Clock,
@@ -57,12 +57,12 @@ impl From<Outcome> for Player {
     fn from(outcome: Outcome) -> Player {
         match outcome {
             Outcome::Idle => Player::Bad,
-            Outcome::SetTo(node) | Outcome::Kept(node, _) => Player::Good(node),
+            Outcome::SetTo(good) | Outcome::Kept(good, _) => Player::Good(good),
         }
     }
 }
 
-// Arrays of 16, of which the cluster's nodes count: a `Vec` may not be had, and what is done with these cannot fail.
+// Arrays of 16, of which the cluster's nodes count: memory for a `Vec` may be wanting, and no call on these can fail.
 /// A cluster at the end of a round: common time, which no node knows, how long a round lasts in it, and
 /// the nodes. What stands past the cluster's nodes is read by none of them.
 #[derive(Clone, Copy)]
@@ -73,6 +73,7 @@ pub struct Clocks {
     pub players: [Player; MAX_NODES],
 }
 
+// An array of 16, as `Clocks` has.
 /// A cluster after a round, and what the round made of each node.
 #[derive(Clone, Copy)]
 pub struct Played {
@@ -203,6 +204,7 @@ impl Ending<'_> {
         requires { other < 16 }
         ensures { result ≡ told self.now.clocks.now self.now.round.now self.now.node own other }
     {
+        // as in `outcome`
         let clocks = self.clocks;
         match clocks.players[other] {
             Player::Good(good) => {

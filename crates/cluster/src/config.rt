@@ -19,7 +19,7 @@ pub enum Unfit {
     Times(schedule::Unfit),
 }
 
-// By hand, as the next: what a derive writes has no contract.
+// By hand, as the next: one that is derived promises nothing.
 impl From<clock::Unfit> for Unfit {
     ghost from_gives = { λ why unfit. unfit ≡ Numbers why };
 
