@@ -23,6 +23,7 @@ use Rattle.cluster.specs.declared.clocks.Played.{Played}
 use Rattle.cluster.specs.declared.clocks.GoodClock.{GoodClock}
 use Rattle.cluster.specs.declared.clocks.Outcome.{Outcome}
 use Rattle.cluster.specs.declared.clocks.Outcome.TheVariants.{Idle, SetTo, Kept}
+use Rattle.cluster.specs.declared.clocks.Refusal.TheVariants.{Time, Readings}
 use Rattle.cluster.specs.declared.clocks.Player.{Player}
 use Rattle.cluster.specs.declared.clocks.Player.TheVariants.{Good, Bad}
 use Rattle.cluster.proofs.Spans.{shows, reads_near}
@@ -35,12 +36,14 @@ time_of (Good node) = node.time
 found_set : (out : Outcome) (standing : Standing) (b : GoodClock) → seen out ≡ Seen.set_to standing → next_player out ≡ Good b → b.time ≡ standing.time
 found_set Idle standing b e f = cc
 found_set (SetTo node) standing b e f = cc
-found_set (Kept node refusal) standing b e f = cc
+found_set (Kept node (Time refusal)) standing b e f = cc
+found_set (Kept node (Readings refusal)) standing b e f = cc
 
 found_idle : (out : Outcome) (b : GoodClock) → seen out ≡ Seen.idle → next_player out ≡ Good b → ⊥
 found_idle Idle b e f = cc
 found_idle (SetTo node) b e f = cc
-found_idle (Kept node refusal) b e f = cc
+found_idle (Kept node (Time refusal)) b e f = cc
+found_idle (Kept node (Readings refusal)) b e f = cc
 
 -- a time that is moved on, and off by no more than the drift
 moved_on : (time span drift : ℕ) (by : ℤ) → time < clock_limit → span + 2 * clock_limit ≤ largest → drift ≤ clock_limit → nat_abs by ≤ drift →

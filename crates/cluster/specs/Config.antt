@@ -1,6 +1,6 @@
 -- The times of a cluster's slots: what is turned away, in the order of the checks. Assumes nothing: these are definitions.
-use Rattle.std.specs.Prelude.{◌≡◌, ℕ, ◌+◌, ◌||◌, List, [], ◌∷◌, nat_lt}
-use Rattle.midpoint.specs.Refusals.{Row, row}
+use Rattle.std.specs.Prelude.{◌≡◌, ℕ, ◌+◌, ◌||◌, List, [], ◌∷◌, Some, nat_lt}
+use Rattle.midpoint.specs.Refusals.{Row, row, first_applying}
 use Rattle.midpoint.specs.declared.refusal.Code.{Code}
 use Rattle.clock.specs.Config as numbers
 use Rattle.schedule.specs.Config as times
@@ -20,6 +20,11 @@ unfit_timing c slot pause message wire =
 abbrev pub code_of : Unfit → Code
 code_of (Numbers unfit) = numbers.code_of unfit
 code_of (Times unfit) = times.code_of unfit
+
+-- the two reasons that share number and place: the first row of the schedule's list says which
+abbrev pub ToldApart : Cluster → ℕ → ℕ → ℕ → ℕ → Unfit → Type 0
+ToldApart c slot pause message wire (Numbers unfit) = ⊥
+ToldApart c slot pause message wire (Times unfit) = first_applying (times.unfit c slot pause message wire) ≡ Some unfit
 
 pub record TimingOf (slot pause message wire : ℕ) (t : Timing) : Type 0 where
   pub its_slot : t.slot ≡ slot

@@ -67,7 +67,7 @@ abbrev pub run_on : Clocks → Round → ℕ → ℕ → ℕ
 run_on c r p time = moved (min (time + c.span) largest) (drift_of r p)
 
 -- What can be seen of a good node behind a round: what its clock shows, the round that it counts, and what it shows as the next round ends. Of
--- every node: nothing of a bad one; set; or not set, with the refusal.
+-- every node: nothing of a bad one; set; or not set, with the refusal of its own time, or of what it reads.
 pub record Standing : Type 0 where
   pub shown : ℕ
   pub round : ℕ
@@ -76,7 +76,8 @@ pub record Standing : Type 0 where
 pub data Seen : Type 0 where
   idle : Seen
   set_to : Standing → Seen
-  kept : Standing → Code → Seen
+  time_refused : Standing → Code → Seen
+  readings_refused : Standing → Code → Seen
 
 abbrev pub standing : Clock → ℕ → Standing
 standing clock time = record { shown = clock.shown; round = clock.round; time = time }
@@ -89,7 +90,8 @@ code_of (Readings refusal) = of_readings.code_of refusal
 abbrev pub seen : Outcome → Seen
 seen Idle = Seen.idle
 seen (SetTo node) = Seen.set_to (standing node.clock node.time)
-seen (Kept node refusal) = Seen.kept (standing node.clock node.time) (code_of refusal)
+seen (Kept node (Time refusal)) = Seen.time_refused (standing node.clock node.time) (of_times.code_of refusal)
+seen (Kept node (Readings refusal)) = Seen.readings_refused (standing node.clock node.time) (of_readings.code_of refusal)
 
 -- the clock of node p, which shows the own time, is set to the midpoint of what it reads, or stays where the readings are turned away; the round
 -- counts on
@@ -98,7 +100,7 @@ left_at c r p time round = record { shown = time; round = next_round_of round; t
 
 abbrev pub set_or_kept : Clocks → Round → ℕ → ℕ → ℕ → ℕ → Option Code → Seen
 set_or_kept c r p own round middle None = Seen.set_to (left_at c r p middle round)
-set_or_kept c r p own round middle (Some code) = Seen.kept (left_at c r p own round) code
+set_or_kept c r p own round middle (Some code) = Seen.readings_refused (left_at c r p own round) code
 
 abbrev pub settled : Clocks → Round → ℕ → ℕ → ℕ → Seen
 settled c r p own round =
@@ -107,7 +109,7 @@ settled c r p own round =
 -- where its own time is turned away nothing is set, and the clock runs on
 abbrev pub timely_or_kept : Clocks → Round → ℕ → GoodClock → Option Code → Seen
 timely_or_kept c r p node None = settled c r p node.time node.clock.round
-timely_or_kept c r p node (Some code) = Seen.kept (standing node.clock (run_on c r p node.time)) code
+timely_or_kept c r p node (Some code) = Seen.time_refused (standing node.clock (run_on c r p node.time)) code
 
 abbrev pub ended : Clocks → Round → ℕ → GoodClock → Seen
 ended c r p node = timely_or_kept c r p node (first_applying (untimely node.clock.shown p node.time))

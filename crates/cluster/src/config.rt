@@ -1,7 +1,7 @@
 //! Configurations, and why one is turned away.
-ghost use Rattle.std.specs.Prelude.{◌≡◌};
+ghost use Rattle.std.specs.Prelude.{◌≡◌, IfErr};
 ghost use Rattle.midpoint.specs.Refusals.{ByRows};
-ghost use Rattle.cluster.specs.Config.{code_of, TimingOf, unfit_timing};
+ghost use Rattle.cluster.specs.Config.{code_of, ToldApart, TimingOf, unfit_timing};
 ghost use Rattle.cluster.specs.declared.config.Unfit.TheVariants.{Numbers, Times};
 
 use crate::limits::Timing;
@@ -55,13 +55,11 @@ impl fmt::Display for Unfit {
         write!(f, "refused {number} at {place}: ")?;
         match self {
             Unfit::Numbers(unfit) => write!(f, "{unfit}"),
-            Unfit::Times(schedule::Unfit::PauseTooShort) => {
-                write!(f, "{}", schedule::Unfit::PauseTooShort)
-            }
             Unfit::Times(schedule::Unfit::LengthTooShort | schedule::Unfit::LengthTooLong) =>
                 f.write_str(
                     "the length is above 10^9, or shorter than pause, wire, width and message together",
                 ),
+            Unfit::Times(unfit) => write!(f, "{unfit}"),
         }
     }
 }
@@ -76,7 +74,8 @@ impl Timing {
         message: u64,
         wire: u64,
     ) -> Result<Timing, Unfit>
-        ensures { ByRows (unfit_timing cluster.now slot pause message wire) code_of (TimingOf slot pause message wire) result }
+        ensures listed { ByRows (unfit_timing cluster.now slot pause message wire) code_of (TimingOf slot pause message wire) result }
+        ensures told_apart { IfErr result (ToldApart cluster.now slot pause message wire) }
     {
         Schedule::new(*cluster, slot, pause, message, wire)?;
         Ok(Timing {
