@@ -20,18 +20,17 @@ past cluster node = refused_if (not (nat_lt node cluster.nodes)) (PastTheCluster
 
 -- Naming: each node is named once. The first that is not named is the number of those before it that are.
 abbrev pub unnameable : Naming → ℕ → List (Row Misfit)
-unnameable s node = past s.cluster node ∷ refused_if (is_some (slice_index_or s.players node None)) (NamedTwice node) ∷ []
+unnameable s node = past s.schedule.cluster node ∷ refused_if (is_some (slice_index_or s.players node None)) (NamedTwice node) ∷ []
 
 pub record Named (s : Naming) (node : ℕ) (player : Player) (t : Naming) : Type 0 where
   pub players : t.players ≡ slice_set s.players node (Some player)
-  pub cluster : t.cluster ≡ s.cluster
-  pub timing : t.timing ≡ s.timing
+  pub schedule : t.schedule ≡ s.schedule
 
 abbrev pub first_unnamed : Naming → ℕ
 first_unnamed s = position_or_len is_none s.players
 
 abbrev pub incomplete : Naming → List (Row Misfit)
-incomplete s = refused_if (nat_lt (first_unnamed s) s.cluster.nodes) (NotNamed (first_unnamed s)) ∷ []
+incomplete s = refused_if (nat_lt (first_unnamed s) s.schedule.cluster.nodes) (NotNamed (first_unnamed s)) ∷ []
 
 -- Rounds: a line that names a bad node, or a good one, names one of the cluster, and then one that passes the test for its kind.
 abbrev pub unless_passed : Running → ℕ → Bool → Misfit → List (Row Misfit)

@@ -12,7 +12,7 @@ pub(crate) enum Entry {
         jitter: u64,
     },
     Timing {
-        slot: u64,
+        length: u64,
         pause: u64,
         message: u64,
         wire: u64,
@@ -99,9 +99,9 @@ fn cluster<'a>(words: &mut SplitWhitespace<'a>) -> Result<Entry, Malformed<'a>> 
 }
 
 fn timing<'a>(words: &mut SplitWhitespace<'a>) -> Result<Entry, Malformed<'a>> {
-    let [slot, pause, message, wire] = four(words, ["length", "pause", "message", "wire"])?;
+    let [length, pause, message, wire] = four(words, ["length", "pause", "message", "wire"])?;
     Ok(Entry::Timing {
-        slot,
+        length,
         pause,
         message,
         wire,

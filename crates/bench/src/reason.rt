@@ -1,5 +1,5 @@
 //! Why a script is turned away.
-use cluster::Unfit;
+use midpoint::Code;
 use std::alloc::AllocError;
 use thiserror::Error;
 
@@ -50,9 +50,12 @@ pub(crate) enum Misfit {
     /// Another line has to stand here.
     #[error("expected {0}")]
     Expected(Lines),
-    /// The configuration is turned away.
-    #[error("{0}")]
-    Refused(#[from] Unfit),
+    /// There is no cluster with these numbers.
+    #[error("refused {}: {}", Code::from(*.0), .0)]
+    NoCluster(#[from] clock::Unfit),
+    /// There is no schedule of it with these times.
+    #[error("refused {}: {}", Code::from(*.0), .0)]
+    NoSchedule(#[from] schedule::Unfit),
     #[error("node {node} is past the cluster")]
     PastTheCluster { node: u64 },
     #[error("node {node} is named twice")]
@@ -78,13 +81,6 @@ pub(crate) enum Misfit {
     JitterTwice { node: u64, of: u64 },
     #[error("the drift {node} stands twice in this round")]
     DriftTwice { node: u64 },
-}
-
-// By hand: it wraps twice.
-impl From<clock::Unfit> for Misfit {
-    fn from(unfit: clock::Unfit) -> Self {
-        Misfit::Refused(Unfit::from(unfit))
-    }
 }
 
 /// Why a line is turned away.

@@ -11,8 +11,9 @@ use crate::entry;
 use crate::entry::Entry;
 use crate::reason::{Fault, Lines, Misfit};
 use clock::{Clock, Cluster};
-use cluster::{Clocks, GoodClock, Outcome, Played, Player, Round, Timing};
+use cluster::{Clocks, GoodClock, Outcome, Played, Player, Round};
 use midpoint::{Code, MAX_NODES};
+use schedule::Schedule;
 use std::alloc::{AllocError, Global};
 use std::fmt::Write;
 
@@ -28,8 +29,7 @@ enum Stage {
 /// A cluster whose nodes are being named.
 #[derive(Clone, Copy)]
 struct Naming {
-    cluster: Cluster,
-    timing: Timing,
+    schedule: Schedule,
     // as many places as `Clocks` has
     players: [Option<Player>; MAX_NODES],
 }
@@ -124,7 +124,7 @@ fn configured(entry: Entry) -> Result<Cluster, Misfit> {
 
 fn timed(cluster: Cluster, entry: Entry) -> Result<Naming, Misfit> {
     let Entry::Timing {
-        slot,
+        length,
         pause,
         message,
         wire,
@@ -132,10 +132,8 @@ fn timed(cluster: Cluster, entry: Entry) -> Result<Naming, Misfit> {
     else {
         return Err(Misfit::Expected(Lines::Timing));
     };
-    let timing = Timing::new(&cluster, slot, pause, message, wire)?;
     Ok(Naming {
-        cluster,
-        timing,
+        schedule: Schedule::new(cluster, length, pause, message, wire)?,
         players: [None; MAX_NODES],
     })
 }
@@ -166,7 +164,7 @@ impl Naming {
             Entry::Bad { node } => Ok(Stage::Naming(self.name(node, Player::Bad)?)),
             Entry::Round => {
                 self.complete()?;
-                let clocks = Clocks::new(self.cluster, self.timing, self.all_players());
+                let clocks = Clocks::new(self.schedule, self.all_players());
                 Ok(Stage::Running(Running::new(clocks)))
             }
             _ => Err(Misfit::Expected(Lines::Nodes)),
@@ -177,7 +175,7 @@ impl Naming {
     fn name(mut self, node: u64, player: Player) -> Result<Naming, Misfit>
         ensures { ByRows (unnameable self node) (λ e. e) (Named self node player) result }
     {
-        let i = index(&self.cluster, node)?;
+        let i = index(&self.schedule.cluster, node)?;
         if self.players[i].is_some() {
             return Err(Misfit::NamedTwice { node });
         }
@@ -190,7 +188,7 @@ impl Naming {
         ensures { ByRows (incomplete self.now) (λ e. e) (λ _. Unit {0}) result }
     {
         match self.first_unnamed() {
-            Some(i) if (i as u64) < self.cluster.nodes() => {
+            Some(i) if (i as u64) < self.schedule.cluster.nodes() => {
                 Err(Misfit::NotNamed { node: i as u64 })
             }
             _ => Ok(()),
@@ -345,8 +343,7 @@ fn show(out: &mut String, played: Option<Played>) -> Result<(), AllocError> {
 
 fn show_refusal(out: &mut String, node: usize, outcome: Outcome) -> Result<(), AllocError> {
     if let Outcome::Kept(_, refusal) = outcome {
-        let Code { number, place } = Code::from(refusal);
-        writeln!(out, "refused {number} at {place}: {node}")?;
+        writeln!(out, "refused {}: {node}", Code::from(refusal))?;
     }
     Ok(())
 }

@@ -78,22 +78,23 @@ fn timings(rt: HostRuntime) -> Result<(), Fail> {
     let heap = rt.alloc();
     let taken = "line 3: node 0 is named neither good nor bad";
     let pause = "line 2: refused 6 at 0: the pause is shorter than width, error and drift together";
-    let length =
-        "line 2: refused 6 at 1: the length is above 10^9, or shorter than pause, wire, width and message together";
+    let short =
+        "line 2: refused 6 at 1: the length is shorter than pause, wire, width and message together";
+    let long = "line 2: refused 6 at 1: the length is above 10^9";
     for (numbers, expected) in [
         ("length 457 pause 137 message 200 wire 8", taken),
         ("length 456 pause 136 message 200 wire 8", pause),
-        ("length 456 pause 137 message 200 wire 8", length),
-        ("length 457 pause 138 message 200 wire 8", length),
+        ("length 456 pause 137 message 200 wire 8", short),
+        ("length 457 pause 138 message 200 wire 8", short),
         ("length 1000000000 pause 137 message 200 wire 8", taken),
-        ("length 1000000001 pause 137 message 200 wire 8", length),
+        ("length 1000000001 pause 137 message 200 wire 8", long),
         (
             "length 1000 pause 137 message 0 wire 18446744073709551615",
-            length,
+            short,
         ),
         (
             "length 1000 pause 18446744073709551615 message 18446744073709551615 wire 18446744073709551615",
-            length,
+            short,
         ),
     ] {
         let text = format!(in heap;

@@ -2,10 +2,10 @@
 ghost use Rattle.std.specs.Prelude.{◌≡◌, ◌*◌, ◌<◌, map, pos, ◌-ℤ◌};
 ghost use Rattle.cluster.specs.Rounds.{code_of, seen, run_on, told, heard_by, settled, ended, outcome, outcomes_of, next_player, Plays};
 
-use crate::limits::Timing;
 use crate::round::Round;
 use clock::{Clock, Cluster, deviation, reading};
 use midpoint::{Code, MAX_NODES};
+use schedule::Schedule;
 
 /// A good node's clock, as the last round left it, and what it shows as this one ends.
 #[derive(Clone, Copy)]
@@ -83,15 +83,15 @@ pub struct Played {
 
 impl Clocks {
     /// A cluster at the end of its first round, which is where common time is 0.
-    pub fn new(cluster: Cluster, timing: Timing, players: [Player; MAX_NODES]) -> Clocks
-        ensures cluster { result.cluster ≡ cluster }
-        ensures span { result.span ≡ cluster.nodes * timing.slot }
+    pub fn new(schedule: Schedule, players: [Player; MAX_NODES]) -> Clocks
+        ensures cluster { result.cluster ≡ schedule.cluster }
+        ensures span { result.span ≡ schedule.cluster.nodes * schedule.length }
         ensures common { result.common ≡ 0 }
         ensures players { result.players ≡ players }
     {
         Clocks {
-            cluster,
-            span: cluster.nodes() * timing.slot,
+            cluster: schedule.cluster,
+            span: schedule.cluster.nodes() * schedule.length,
             common: 0,
             players,
         }

@@ -2,6 +2,8 @@
 ghost use Rattle.std.specs.Prelude.{◌≡◌};
 ghost use Rattle.midpoint.specs.Setting.{code_of};
 
+use std::fmt;
+
 /// A refusal as the fixed list of all refusals has it: the number of its row, and the place in the
 /// input that it names.
 // Numbers, since callers and the fixed list know refusals by them; the reason itself is a case of an enum.
@@ -9,6 +11,15 @@ ghost use Rattle.midpoint.specs.Setting.{code_of};
 pub struct Code {
     pub number: u64,
     pub place: u64,
+}
+
+// By hand: it is no error by itself, and `thiserror` shows errors.
+/// Shown as `6 at 0`: the number, and the place behind it.
+impl fmt::Display for Code {
+    fn fmt<W: fmt::Write>(&self, f: &mut fmt::Formatter<W>) -> fmt::Result {
+        let Code { number, place } = self;
+        write!(f, "{number} at {place}")
+    }
 }
 
 /// Why no clock is set by these readings. Where several apply it is the first of this order.
