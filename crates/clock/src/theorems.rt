@@ -3,65 +3,47 @@
 ghost use Rattle.clock.specs.Theorems.{StaysTogether, StaysInWidth, Halves, ComesTogether, StaysBetween, CountsTogether, ReadsAsSaid, CanBeRun, CanBeChosen};
 
 /// Good clocks within the bound are within it after any number of rounds.
-pub fn good_clocks_stay_together() -> u8
+pub fn good_clocks_stay_together()
     ensures { StaysTogether }
-{
-    0
-}
+{}
 
 /// And they are within the width at any moment of a round.
-pub fn good_clocks_stay_in_the_width() -> u8
+pub fn good_clocks_stay_in_the_width()
     ensures { StaysInWidth }
-{
-    0
-}
+{}
 
 /// A round halves what good clocks are apart, up to a rest.
-pub fn round_halves_the_distance() -> u8
+pub fn round_halves_the_distance()
     ensures { Halves }
-{
-    0
-}
+{}
 
 /// From any start good clocks come together, as fast as halving does.
-pub fn good_clocks_come_together() -> u8
+pub fn good_clocks_come_together()
     ensures { ComesTogether }
-{
-    0
-}
+{}
 
 /// No good clock is pulled out of what good clocks span, but for the error and the drift.
-pub fn nobody_is_pulled_out() -> u8
+pub fn nobody_is_pulled_out()
     ensures { StaysBetween }
-{
-    0
-}
+{}
 
 /// Good nodes that count the same round count the same round ever after.
-pub fn rounds_are_counted_together() -> u8
+pub fn rounds_are_counted_together()
     ensures { CountsTogether }
-{
-    0
-}
+{}
 
 /// The reading of a message is what is said of it, deviations that do not fit among them.
-pub fn reading_is_as_said() -> u8
+pub fn reading_is_as_said()
     ensures { ReadsAsSaid }
-{
-    0
-}
+{}
 
 /// What the theorems ask of rounds can be met, whatever the faulty nodes say.
-pub fn rounds_can_be_run() -> u8
+pub fn rounds_can_be_run()
     ensures { CanBeRun }
-{
-    0
-}
+{}
 
 /// Nor do they ask for more: from any good clocks there is a round for any errors, lies and running off
 /// that the cluster allows.
-pub fn rounds_can_be_chosen() -> u8
+pub fn rounds_can_be_chosen()
     ensures { CanBeChosen }
-{
-    0
-}
+{}

@@ -3,64 +3,46 @@
 ghost use Rattle.midpoint.specs.Theorems.{Sorts, Trims, OrderFree, Shifts, Holds, NeedsMore, OneAnswer, StaysShown, Worked};
 
 /// The sorted list rises, has the same readings, and is the only such list.
-pub fn sorting_keeps_the_readings() -> u8
+pub fn sorting_keeps_the_readings()
     ensures { Sorts }
-{
-    0
-}
+{}
 
 /// At most as many readings as faults are thrown away at each end.
-pub fn extremes_are_few() -> u8
+pub fn extremes_are_few()
     ensures { Trims }
-{
-    0
-}
+{}
 
 /// The order of the readings does not matter.
-pub fn order_does_not_matter() -> u8
+pub fn order_does_not_matter()
     ensures { OrderFree }
-{
-    0
-}
+{}
 
 /// Readings that are all later by the same give a midpoint that is later by that.
-pub fn midpoint_moves_along() -> u8
+pub fn midpoint_moves_along()
     ensures { Shifts }
-{
-    0
-}
+{}
 
 /// At most as many liars as faults do not pull the midpoint out of what the others span.
-pub fn liars_do_not_move_it_out() -> u8
+pub fn liars_do_not_move_it_out()
     ensures { Holds }
-{
-    0
-}
+{}
 
 /// With no more than twice as many readings as faults they do.
-pub fn fewer_readings_do_not_hold() -> u8
+pub fn fewer_readings_do_not_hold()
     ensures { NeedsMore }
-{
-    0
-}
+{}
 
 /// The contract of `set_clock` leaves one answer for each input.
-pub fn answer_is_one() -> u8
+pub fn answer_is_one()
     ensures { OneAnswer }
-{
-    0
-}
+{}
 
 /// A clock is only set to a time that a clock can show.
-pub fn limit_is_not_passed() -> u8
+pub fn limit_is_not_passed()
     ensures { StaysShown }
-{
-    0
-}
+{}
 
 /// The cases worked out by hand.
-pub fn worked_cases_hold() -> u8
+pub fn worked_cases_hold()
     ensures { Worked }
-{
-    0
-}
+{}

@@ -8,134 +8,96 @@ ghost use Rattle.schedule.specs.Possible.{CourseCanBeRun, MessageCanPass, RoundC
 use crate::listening::Listener;
 
 /// Slots follow one another, and each is that of one node in one round.
-pub fn slots_follow() -> u8
+pub fn slots_follow()
     ensures { SlotsFollow }
-{
-    0
-}
+{}
 
 /// However many arrivals a listener was told of, it answers the only one that is heard, or nothing.
-pub fn only_message_is_heard<M: Copy>(listener: Listener<M>) -> u8
+pub fn only_message_is_heard<M: Copy>(listener: Listener<M>)
     ensures { HearsTheOnlyOne listener }
-{
-    0
-}
+{}
 
 /// Within the width, what is sent in a slot is whole in that slot where it arrives.
-pub fn messages_are_heard_whole() -> u8
+pub fn messages_are_heard_whole()
     ensures { HearsWhole }
-{
-    0
-}
+{}
 
-/// And the listener for that slot answers it, if nothing else came on its wire.
-pub fn messages_are_answered<M: Copy>(listener: Listener<M>) -> u8
+/// A listener answers the message of its slot's node, if nothing else came on that node's wire.
+pub fn messages_are_answered<M: Copy>(listener: Listener<M>)
     ensures { HearsTheMessage listener }
-{
-    0
-}
+{}
 
 /// Good nodes hear each other whole, in a round that they begin within the bound.
-pub fn good_nodes_hear_each_other() -> u8
+pub fn good_nodes_hear_each_other()
     ensures { HearsGoodNodes }
-{
-    0
-}
+{}
 
 /// A good node reads a good one whose message it hears right up to the error.
-pub fn good_nodes_read_right() -> u8
+pub fn good_nodes_read_right()
     ensures { ReadsRight }
-{
-    0
-}
+{}
 
 /// No message that is heard is read as farther ahead than by the pause.
-pub fn nobody_reads_past_the_pause() -> u8
+pub fn nobody_reads_past_the_pause()
     ensures { ReadsNoFarther }
-{
-    0
-}
+{}
 
-/// So what the clock's theorems ask of a round is met where good nodes hear each other.
-pub fn heard_rounds_are_rounds() -> u8
+/// Where good nodes hear each other, what the clock's theorems ask of a round is met.
+pub fn heard_rounds_are_rounds()
     ensures { MakesARound }
-{
-    0
-}
+{}
 
 /// When a good node sends, each good node has set its clock for that round.
-pub fn clocks_are_set_before() -> u8
+pub fn clocks_are_set_before()
     ensures { SetsBefore }
-{
-    0
-}
+{}
 
 /// What a good node sends is over before a good node sends in any later slot.
-pub fn nothing_overlaps() -> u8
+pub fn nothing_overlaps()
     ensures { NothingOverlaps }
-{
-    0
-}
+{}
 
-/// The same where each good clock keeps its lead: what is sent is heard whole,
-pub fn heard_with_leads() -> u8
+/// Where good clocks keep their leads, what a good node sends in its slot is heard whole in it.
+pub fn heard_with_leads()
     ensures { Heard }
-{
-    0
-}
+{}
 
-/// is over before the next is sent,
-pub fn never_over_with_leads() -> u8
+/// Where good clocks keep their leads, what a good node sends is over before one sends in a later slot.
+pub fn never_over_with_leads()
     ensures { NeverOver }
-{
-    0
-}
+{}
 
-/// and finds no clock that is still to be set.
-pub fn set_in_time_with_leads() -> u8
+/// By the leads before and after the setting, what a good node sends finds no clock still to be set.
+pub fn set_in_time_with_leads()
     ensures { SetInTime }
-{
-    0
-}
+{}
 
 /// The length of a slot is tight: a tick less, and a message is not heard.
-pub fn length_is_tight() -> u8
+pub fn length_is_tight()
     ensures { LengthIsTight }
-{
-    0
-}
+{}
 
-/// So it is in numbers,
-pub fn short_length_fails() -> u8
+/// In numbers: with a length that is a tick too short a message is not heard.
+pub fn short_length_fails()
     ensures { ShortLengthFails }
-{
-    0
-}
+{}
 
-/// and so is the pause.
-pub fn short_pause_fails() -> u8
+/// In numbers: with a pause that is a tick too short a message finds a clock still to be set.
+pub fn short_pause_fails()
     ensures { ShortPauseFails }
-{
-    0
-}
+{}
 
 /// What the theorems ask of nodes that send round after round can be met.
-pub fn course_can_be_run() -> u8
+pub fn course_can_be_run()
     ensures { CourseCanBeRun }
-{
-    0
-}
+{}
 
 /// What they ask of a message can be met, for clocks anywhere within the width.
-pub fn message_can_pass() -> u8
+pub fn message_can_pass()
     ensures { MessageCanPass }
-{
-    0
-}
+{}
 
-/// And so can what they ask of a round, whatever was heard of the faulty nodes.
-pub fn round_can_be_heard() -> u8
+/// What they ask of a round can be met, whatever was heard of the faulty nodes.
+pub fn round_can_be_heard()
     ensures { RoundCanBeHeard }
-{
-    0
-}
+{}
