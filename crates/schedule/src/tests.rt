@@ -234,6 +234,29 @@ fn one_message(rt: HostRuntime) -> Result<(), Fail> {
     )
 }
 
+// Two good nodes at the two ends of the width, 112: node 1 shows common time, and node 2 is ahead of it. Node 1
+// sends in slot 8 at 3793; 8 on its way, its message lasts at node 2 from 3801 to 4001, where it shows 3913 to
+// 4113. Node 2 sends in slot 9 when it shows 4250, at 4138; at once at node 1, its message lasts to 4338. So each
+// is whole in its slot, which is from 4113 to 4570 for slot 9, and the first is over before the second begins.
+#[test]
+fn ends_of_the_width(rt: HostRuntime) -> Result<(), Fail> {
+    let schedule = seven()?;
+    assert_eq!(rt; schedule.send_time(8), 3793);
+    assert_eq!(rt; schedule.send_time(9), 4138 + 112);
+    for (slot, arrival, expected) in [
+        (8, on(1, 3913, 4113, 5), one(-120, 5)),
+        (9, on(2, 4138, 4338, 6), one(112, 6)),
+        // a tick farther apart the first ends behind its slot
+        (8, on(1, 3914, 4114, 5), None),
+        // by the pause farther ahead the second begins before its slot
+        (9, on(2, 4113, 4313, 6), one(137, 6)),
+        (9, on(2, 4112, 4312, 6), None),
+    ] {
+        assert_eq!(rt; schedule.hear(slot, 3656, &[arrival]), expected);
+    }
+    Ok(())
+}
+
 #[test]
 fn several_messages(rt: HostRuntime) -> Result<(), Fail> {
     let first = on(1, 3700, 3750, 5);
