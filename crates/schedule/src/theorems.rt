@@ -1,7 +1,8 @@
 //! The theorems of this crate. Each function's contract is one statement of `specs/Theorems.antt`,
-//! `specs/Tight.antt` or `specs/Possible.antt`, so that the crate is not proved without it; what the function
-//! does is nothing.
+//! `specs/Runs.antt`, `specs/Tight.antt` or `specs/Possible.antt`, so that the crate is not proved without
+//! it; what the function does is nothing.
 ghost use Rattle.schedule.specs.Theorems.{SlotsFollow, HearsTheOnlyOne, HearsWhole, HearsTheMessage, HearsGoodNodes, ReadsRight, ReadsNoFarther, MakesARound, SetsBefore, NothingOverlaps, Heard, NeverOver, SetInTime};
+ghost use Rattle.schedule.specs.Runs.{Stands, RunCanBeGiven};
 ghost use Rattle.schedule.specs.Tight.{LengthIsTight, ShortLengthFails, ShortPauseFails};
 ghost use Rattle.schedule.specs.Possible.{CourseCanBeRun, MessageCanPass, RoundCanBeHeard};
 
@@ -98,6 +99,14 @@ pub fn set_in_time_with_leads() -> u8
     0
 }
 
+/// Good clocks that start within the bound stay together, and good nodes hear each other and do not overlap,
+/// for any number of rounds and whatever the faulty nodes do.
+pub fn good_nodes_stand_together() -> u8
+    ensures { Stands }
+{
+    0
+}
+
 /// The length of a slot is tight: a tick less, and a message is not heard.
 pub fn length_is_tight() -> u8
     ensures { LengthIsTight }
@@ -136,6 +145,14 @@ pub fn message_can_pass() -> u8
 /// And so can what they ask of a round, whatever was heard of the faulty nodes.
 pub fn round_can_be_heard() -> u8
     ensures { RoundCanBeHeard }
+{
+    0
+}
+
+/// What they ask of a run of good nodes over many rounds can be met, for as many as clocks can show and
+/// whatever is heard of the faulty nodes in their slots.
+pub fn run_can_be_given() -> u8
+    ensures { RunCanBeGiven }
 {
     0
 }
