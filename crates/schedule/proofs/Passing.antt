@@ -1,9 +1,11 @@
 -- Messages that pass from node to node: they are whole in their slot, find clocks that are set, and do not overlap. Assumes nothing.
 use borrow.Author.Differences.{ints}
-use Rattle.std.proofs.Common.{◌≡◌, ℕ, zero, suc, ◌+◌, ◌*◌, ◌<◌, ◌≤◌, Bool, true, eqb, List, get_or, ℤ, pos, ◌+ℤ◌, ◌-ℤ◌, ◌≤ℤ◌, Some, None, Option, sym, inl, inr, mul-le-mul_right, add-mul, div-mul-le_self, arith}
+use Rattle.std.proofs.Common.{◌≡◌, ℕ, zero, suc, ◌+◌, ◌*◌, ◌<◌, ◌≤◌, Bool, true, false, eqb, List, get_or, ℤ, pos, ◌+ℤ◌, ◌-ℤ◌, ◌≤ℤ◌, Some, None, Option, sym, refl, inl, inr, mul-le-mul_right, add-mul, div-mul-le_self, arith}
 use Rattle.std.proofs.lemmas.Bool.{cases_Bool, cases_lt, ne_eqb}
 use Rattle.std.proofs.lemmas.Bool.Decides.{nat_tests}
+use Rattle.std.specs.List.{range_with_len}
 use Rattle.midpoint.specs.Setting.{clock_limit}
+use Rattle.midpoint.proofs.Sorting.{count_none}
 use Rattle.clock.specs.Config.{bound_of, width_of}
 use Rattle.clock.specs.Deviation.{deviation_of, moved}
 use Rattle.clock.specs.Rounds.{Moment, lead, GoodNode, FewBad, Apart, Round}
@@ -50,7 +52,7 @@ hears_good_nodes s good start slot q sent began ended apart gp gq (slow, fast) (
     ))
 
 -- a message that began in its slot is read as it should be
-pub read_exactly : (own start pause began : ℕ) → own < clock_limit → pause ≤ 1000000000 → start ≤ began → began ≤ own →
+read_exactly : (own start pause began : ℕ) → own < clock_limit → pause ≤ 1000000000 → start ≤ began → began ≤ own →
     moved own (deviation_of (start + pause) began) + began ≡ own + start + pause
 read_exactly own start pause began h p low high = grind (arith, ints)
 
@@ -65,7 +67,7 @@ read_from_slot : (t : Timing) (slot own : ℕ) (heard : Option ℤ) → FromSlot
 read_from_slot t slot own None from = omega arith
 read_from_slot t slot own (Some deviation) (began, low, e) = rw e (grind (arith, ints))
 
-pub reads_from_slot : (t : Timing) (slot own p q : ℕ) (heard : List (Option ℤ)) → FromSlot t slot (get_or heard q None) →
+reads_from_slot : (t : Timing) (slot own p q : ℕ) (heard : List (Option ℤ)) → FromSlot t slot (get_or heard q None) →
     reads p own heard q ≤ own + t.pause
 reads_from_slot t slot own p q heard from =
     let le = read_from_slot t slot own (get_or heard q None) from in
@@ -94,19 +96,18 @@ makes_a_round s good round heard ends after set h sets runs counts = record {
   counts = counts;
 }
 
--- So a clock is set to what lies between the readings of good nodes, whatever was heard of the others.
-pub settles_between : (s : Schedule) (good : ℕ → Bool) (round own p low high : ℕ) (heard : List (Option ℤ)) → FewBad s.cluster good →
-    own + s.pause < clock_limit →
+-- so nor is a clock set past it
+pub settles_no_farther : (s : Schedule) (round own p : ℕ) (heard : List (Option ℤ)) → own + s.pause < clock_limit →
     ((q : ℕ) → q < s.cluster.nodes → FromSlot (timing_of s) (slot_of (timing_of s) round q) (get_or heard q None)) →
-    ((q : ℕ) → q < s.cluster.nodes → good q ≡ true → (low ≤ reads p own heard q) × (reads p own heard q ≤ high)) →
-    (low ≤ settled s.cluster.faults own (readings s.cluster.nodes p own heard))
-    × (settled s.cluster.faults own (readings s.cluster.nodes p own heard) ≤ high)
+    settled s.cluster.faults own (readings s.cluster.nodes p own heard) ≤ own + s.pause
 unfolding readings
-settles_between s good round own p low high heard few room from span =
-    let t =
-    not_turned_away s.cluster (reads p own heard)
-    (λ q h. omega (arith, room, reads_from_slot (timing_of s) (slot_of (timing_of s) round q) own p q heard (from q h))) in
-    rw t (midpoint_within s.cluster good (reads p own heard) low high few span)
+settles_no_farther s round own p heard room from =
+    let each : (q : ℕ) → q < s.cluster.nodes → reads p own heard q ≤ own + s.pause =
+    λ q h. reads_from_slot (timing_of s) (slot_of (timing_of s) round q) own p q heard (from q h) in
+    let t = not_turned_away s.cluster (reads p own heard) (λ q h. omega (arith, room, each q h)) in
+    let none = count_none (λ q. false) (range_with_len 0 s.cluster.nodes) (λ i d h. refl) in
+    rw t
+    (midpoint_within s.cluster (λ q. true) (reads p own heard) 0 (own + s.pause) (omega arith) (λ q h b. (omega arith, omega (arith, each q h)))).1
 
 -- a good clock is set to no more than width, error and drift ahead of any good clock before it was set
 not_far_ahead : (s : Schedule) (good : ℕ → Bool) (heard : ℕ → List (Option ℤ)) (before after : ℕ → Moment) (p q : ℕ) → FewBad s.cluster good →

@@ -1,24 +1,22 @@
 -- A run of good nodes, by induction on its rounds: where the clocks are within the bound as a round begins, and no message was missed, each hears each
 -- in it, so that they are as the next one begins. Assumes nothing.
 use borrow.Author.Differences.{ints}
-use Rattle.std.proofs.Common.{◌≡◌, ℕ, zero, suc, ◌+◌, ◌<◌, ◌≤◌, Bool, true, false, pos, ◌+ℤ◌, ◌≤ℤ◌, Some, None, get_or, sym, subst, refl, ◌∙◌, inl, inr, add-mul, arith}
+use Rattle.std.proofs.Common.{◌≡◌, ℕ, zero, suc, ◌+◌, ◌<◌, ◌≤◌, Bool, true, pos, ◌+ℤ◌, ◌≤ℤ◌, Some, None, get_or, sym, subst, refl, ◌∙◌, inl, inr, add-mul, arith}
 use Rattle.std.proofs.lemmas.Bool.{cases_lt}
 use Rattle.std.proofs.lemmas.Bool.Decides.{nat_tests}
 use Rattle.std.proofs.lemmas.Nat.{mod-mul-add, div-mul-add}
-use Rattle.std.specs.List.{range_with_len}
 use Rattle.midpoint.specs.Setting.{clock_limit}
-use Rattle.midpoint.proofs.Sorting.{count_none}
 use Rattle.clock.specs.Config.{bound_of, width_of}
 use Rattle.clock.specs.Deviation.{deviation_of}
 use Rattle.clock.specs.Rounds.{Moment, lead, GoodNode, FewBad, Apart, Round}
 use Rattle.clock.proofs.Rounds.{set_closer}
 use Rattle.schedule.specs.Config.{timing_of}
 use Rattle.schedule.specs.Listening.{whole_in}
-use Rattle.schedule.specs.Messages.{instant, AheadBy, SameRound, Course, FromSlot, HeardRound}
+use Rattle.schedule.specs.Messages.{instant, AheadBy, SameRound, Course, HeardRound}
 use Rattle.schedule.specs.Runs.{Run, WholeFor, Lawful, Started, Standing, Stands}
 use Rattle.schedule.specs.Slots.{Timing, slot_of, slot_start, slot_end_of, send_time_of, round_end_of}
 use Rattle.schedule.specs.declared.limits.Schedule.{Schedule}
-use Rattle.schedule.proofs.Passing.{hears_whole, ahead_by, makes_a_round, reads_from_slot, settles_between, sets_before, rises, slot_long, starts_later, in_round, behind_round, over_in_round, nothing_overlaps_lem}
+use Rattle.schedule.proofs.Passing.{hears_whole, ahead_by, makes_a_round, settles_no_farther, sets_before, rises, slot_long, starts_later, in_round, behind_round, over_in_round, nothing_overlaps_lem}
 
 module _ (s : Schedule) (good : ℕ → Bool) (rounds : ℕ) (r : Run) (few : FewBad s.cluster good) (law : Lawful s good rounds r) where
   abbrev t : Timing
@@ -37,25 +35,27 @@ module _ (s : Schedule) (good : ℕ → Bool) (rounds : ℕ) (r : Run) (few : Fe
   ends_before : (k p : ℕ) → k < rounds → Good p → (r.ends k p).common ≤ (r.sends (suc k) p).common
   ends_before k p h g = omega (arith, (law.setting k p h g).0, (law.sending (suc k) p h g).1)
 
+  sends_end : (k p : ℕ) → k < rounds → Good p → (r.sends k p).common ≤ (r.ends k p).common
+  sends_end k p h g =
+      let (sent, _, due) = law.sending k p (omega arith) g in
+      let (ended, shows) = law.ending k p h g in
+      let run = ahead_by (r.ends k p) (r.sends k p) s.cluster.drift (law.drifts k p (r.ends k p) (r.sends k p) (omega arith) g ended sent) in
+      omega (arith, over_in_round s k p (instant (r.sends k p)) (instant (r.ends k p)) g.0 due shows (omega arith))
+
   sends_rise : (k j p : ℕ) → k ≤ j → j ≤ rounds → Good p → (r.sends k p).common ≤ (r.sends j p).common
   sends_rise k j p le h g =
-      rises (λ i. (r.sends i p).common) rounds (λ i l. omega (arith, (law.ending i p l g).1, ends_before i p l g)) k j le h
+      rises (λ i. (r.sends i p).common) rounds (λ i l. omega (arith, sends_end i p l g, ends_before i p l g)) k j le h
 
   -- a round ends a pause before the limit, since the node still sends in the next one
   room : (k p : ℕ) → k < rounds → Good p → (r.ends k p).clock.shown + s.pause < clock_limit
   room k p h g =
-      omega (arith, (law.ending k p h g).2, behind_round s k p, (law.sending (suc k) p h g).2, (r.sends (suc k) p).clock.below)
+      omega (arith, (law.ending k p h g).1, behind_round s k p, (law.sending (suc k) p h g).2, (r.sends (suc k) p).clock.below)
 
   -- whatever was heard, no clock is set farther ahead than by the pause
   set_le : (k p : ℕ) → k < rounds → Good p → (r.starts (suc k) p).clock.shown ≤ round_end_of t k + s.pause
   set_le k p h g =
-      let own = (r.ends k p).clock.shown in
-      let none = count_none (λ q. false) (range_with_len 0 s.cluster.nodes) (λ i d l. refl) in
-      let from : (q : ℕ) → q < s.cluster.nodes → FromSlot t (slot k q) (get_or (r.heard k p) q None) = λ q l. law.from_slots k p q h g l in
-      let (_, high) =
-      settles_between s (λ q. true) k own p 0 (own + s.pause) (r.heard k p) (omega arith) (room k p h g) from
-      (λ q l b. (omega arith, reads_from_slot t (slot k q) own p q (r.heard k p) (from q l))) in
-      omega (arith, high, (law.setting k p h g).1.its_shown, (law.ending k p h g).2)
+      let high = settles_no_farther s k (r.ends k p).clock.shown p (r.heard k p) (room k p h g) (λ q l. law.from_slots k p q h g l) in
+      omega (arith, high, (law.setting k p h g).1.its_shown, (law.ending k p h g).1)
 
   -- What is known of a round as it begins: the clocks are within the bound, no message of it was missed, and those of earlier ones are over.
   record Ready (k : ℕ) : Type 0 where
@@ -83,7 +83,7 @@ module _ (s : Schedule) (good : ℕ → Bool) (rounds : ℕ) (r : Run) (few : Fe
       over_in : (p q : ℕ) → Good p → Good q → (r.sends k q).common + s.wire + s.message ≤ (r.ends k p).common
       over_in p q gp gq =
           let (sent, _, due) = law.sending k q le gq in
-          let (ended, _, shows) = law.ending k p h gp in
+          let (ended, shows) = law.ending k p h gp in
           over_in_round s k q (instant (r.sends k q)) (instant (r.ends k p)) gq.0 due shows (near_by p q (r.ends k p) (r.sends k q) le gp gq ended sent)
 
       -- a message between two good nodes
@@ -111,7 +111,7 @@ module _ (s : Schedule) (good : ℕ → Bool) (rounds : ℕ) (r : Run) (few : Fe
             let (sent, _, due) = law.sending k q le gq in
             let near = near_by p q (r.begins k p q) (r.sends k q) le gp gq falls_in.0 sent in
             let fits = in_round s k q gq.0 in
-            (grind (arith, nat_tests, whole), omega (arith, way.arrives, s.behind, (law.ending k p h gp).2))
+            (grind (arith, nat_tests, whole), omega (arith, way.arrives, s.behind, (law.ending k p h gp).1))
 
         -- one of a later round comes, by the receiver's clock, when the slot is over
         later_out : (j : ℕ) → k < j → j ≤ rounds → WholeFor s r k j p q → ⊥
@@ -119,8 +119,8 @@ module _ (s : Schedule) (good : ℕ → Bool) (rounds : ℕ) (r : Run) (few : Fe
             let (way, _, _) = law.carried j p q u gp gq d in
             let (_, over) = law.falls_in k j p q h u gp gq d w.begun_in w.over_in in
             let (sent, _, due) = law.sending (suc k) q h gq in
-            let (ended, _, shows) = law.ending k p h gp in
-            let (other, _, shows_other) = law.ending k q h gq in
+            let (ended, shows) = law.ending k p h gp in
+            let (other, shows_other) = law.ending k q h gq in
             let inside : (r.over j p q).clock.shown ≤ slot_end_of t (slot k q) = grind (arith, nat_tests, w.whole) in
             let turn : slot k q + 1 < slot (suc k) q = omega (arith, add-mul k 1 s.cluster.nodes, s.cluster.enough) in
             omega (
@@ -205,7 +205,7 @@ module _ (s : Schedule) (good : ℕ → Bool) (rounds : ℕ) (r : Run) (few : Fe
         listens = λ p q gp gq d.
             let later = div-mul-add (suc k) s.cluster.nodes q gq.0 in
             let set =
-            sets_before s good (r.heard k) (r.ends k) next k (slot (suc k) q) q p few one_round ends_apart gq gp (law.ending k p h gp).2 (omega arith)
+            sets_before s good (r.heard k) (r.ends k) next k (slot (suc k) q) q p few one_round ends_apart gq gp (law.ending k p h gp).1 (omega arith)
             (law.sending (suc k) q h gq).2 in
             omega (arith, set, (law.setting k p h gp).0, (law.carried (suc k) p q h gp gq d).0.leaves);
         past = λ j p q less gp gq d.
@@ -215,7 +215,7 @@ module _ (s : Schedule) (good : ℕ → Bool) (rounds : ℕ) (r : Run) (few : Fe
                     arith,
                     ready.past j p q before gp gq d,
                     (law.sending k p le gp).1,
-                    (law.ending k p h gp).1,
+                    sends_end k p h gp,
                     (law.setting k p h gp).0,
                   )
               | inr same ↦ let e : j ≡ k = omega arith in rw e (omega (arith, lasts p q gp gq d, (law.setting k p h gp).0))
@@ -233,8 +233,8 @@ module _ (s : Schedule) (good : ℕ → Bool) (rounds : ℕ) (r : Run) (few : Fe
     course : Course s good rounds (λ k p. instant (r.sends k p)) (λ k p. instant (r.ends k p))
     course = record {
       sent = λ k p h g. (law.sending k p h g).2;
-      over = λ k p h g. (law.ending k p h g).2;
-      before_the_end = λ k p h g. (law.ending k p h g).1;
+      over = λ k p h g. (law.ending k p h g).1;
+      before_the_end = sends_end;
       behind_it = ends_before;
       sends_together = λ k p q h gp gq.
           near_by k (known k h) q p (r.sends k q) (r.sends k p) h gq gp (law.sending k q h gq).0 (law.sending k p h gp).0;

@@ -48,7 +48,7 @@ pub record Lawful (s : Schedule) (good : ℕ → Bool) (rounds : ℕ) (r : Run) 
       × Sends (timing_of s) (slot_of (timing_of s) k p) (instant (r.sends k p))
   pub ending :
       (k p : ℕ) → k < rounds → GoodNode s.cluster good p →
-      (r.of_round k p (r.ends k p) ≡ true) × ((r.sends k p).common ≤ (r.ends k p).common) × ((r.ends k p).clock.shown ≡ round_end_of (timing_of s) k)
+      (r.of_round k p (r.ends k p) ≡ true) × ((r.ends k p).clock.shown ≡ round_end_of (timing_of s) k)
   pub setting :
       (k p : ℕ) → k < rounds → GoodNode s.cluster good p →
       ((r.starts (suc k) p).common ≡ (r.ends k p).common) × SetBy s.cluster p (r.ends k p).clock (r.heard k p) (r.starts (suc k) p).clock
@@ -62,7 +62,7 @@ pub record Lawful (s : Schedule) (good : ℕ → Bool) (rounds : ℕ) (r : Run) 
       (k j p q : ℕ) → k < rounds → j ≤ rounds → GoodNode s.cluster good p → GoodNode s.cluster good q → (p ≢ q) →
       (r.starts k p).common ≤ (r.begins j p q).common → (r.over j p q).common ≤ (r.ends k p).common →
       (r.of_round k p (r.begins j p q) ≡ true) × (r.of_round k p (r.over j p q) ≡ true)
-  -- and where it is whole there in its slot, and no other message of its sender is, it is heard
+  -- and where it is whole there in its slot, and no other of its sender's messages in all these rounds is, it is heard
   pub hears :
       (k p q : ℕ) → k < rounds → GoodNode s.cluster good p → GoodNode s.cluster good q → (p ≢ q) → WholeFor s r k k p q →
       ((j : ℕ) → j ≤ rounds → (j ≢ k) → WholeFor s r k j p q → ⊥) →
@@ -96,7 +96,8 @@ pub record Standing (s : Schedule) (good : ℕ → Bool) (rounds : ℕ) (r : Run
       (k p q : ℕ) → k < rounds → GoodNode s.cluster good p → GoodNode s.cluster good q → (p ≢ q) →
       whole_in (timing_of s) (slot_of (timing_of s) k q) q (r.begins k p q).clock.shown (r.over k p q).clock.shown ≡ true
   pub alone :
-      (k j p q : ℕ) → k < rounds → j ≤ rounds → (j ≢ k) → GoodNode s.cluster good p → GoodNode s.cluster good q → (p ≢ q) → WholeFor s r k j p q → ⊥
+      (k j p q : ℕ) → k < rounds → j ≤ rounds → (j ≢ k) → GoodNode s.cluster good p → GoodNode s.cluster good q → (p ≢ q) →
+      WholeFor s r k j p q → ⊥
   pub heard :
       (k p q : ℕ) → k < rounds → GoodNode s.cluster good p → GoodNode s.cluster good q → (p ≢ q) →
       slice_index_or (r.heard k p) q None ≡ Some (deviation_of (send_time_of (timing_of s) (slot_of (timing_of s) k q)) (r.begins k p q).clock.shown)
@@ -115,16 +116,36 @@ Stands =
     (s : Schedule) (good : ℕ → Bool) (rounds : ℕ) (r : Run) → FewBad s.cluster good → Lawful s good rounds r → Started s good r →
     Standing s good rounds r
 
--- There are such runs, for as many rounds as clocks can show, and whatever is heard of the faulty nodes in their slots. That the good nodes can still
--- send in the round after the last is asked of any run, since their clocks stay below the limit; and where messages last no tick, there is none.
-pub record RunGiven (s : Schedule) (good : ℕ → Bool) (rounds : ℕ) (lies : ℕ → ℕ → ℕ → Option ℤ) : Type 0 where
+-- There are such runs, for as many rounds as clocks can show, and this may be chosen of them: the clocks as the first round begins, how much each
+-- loses in a round, how long each message is on its way and lasts, and what is heard of faulty nodes in their slots.
+pub record Choice
+    (s : Schedule) (good : ℕ → Bool) (rounds : ℕ) (first : ℕ → Moment) (losses : ℕ → ℕ → ℕ) (delays lengths : ℕ → ℕ → ℕ → ℕ)
+    (lies : ℕ → ℕ → ℕ → Option ℤ) : Type 0 where
+  -- the clocks are within the bound, and show so little that none has missed the first message
+  pub near : Apart s.cluster good (bound_of s.cluster) first
+  pub early : (p : ℕ) → GoodNode s.cluster good p → (first p).clock.shown + bound_of s.cluster ≤ s.pause
+  pub steady : (k p : ℕ) → losses k p ≤ s.cluster.drift
+  pub on_time : (k p q : ℕ) → (delays k p q ≤ s.wire) × (delays k p q ≤ s.cluster.jitter)
+  -- each lasts a tick at least, so that the schedule has to allow for one
+  pub lasting : (k p q : ℕ) → (1 ≤ lengths k p q) × (lengths k p q ≤ s.message)
+  pub from_slots : (k p q : ℕ) → FromSlot (timing_of s) (slot_of (timing_of s) k q) (lies k p q)
+  -- any run asks as much, since clocks stay below the limit: the good nodes can still send in the round after the last
+  pub room : (p : ℕ) → GoodNode s.cluster good p → send_time_of (timing_of s) (slot_of (timing_of s) rounds p) < clock_limit
+
+pub record RunGiven
+    (s : Schedule) (good : ℕ → Bool) (rounds : ℕ) (first : ℕ → Moment) (losses : ℕ → ℕ → ℕ) (delays lengths : ℕ → ℕ → ℕ → ℕ)
+    (lies : ℕ → ℕ → ℕ → Option ℤ) : Type 0 where
   pub run : Run
   pub lawful : Lawful s good rounds run
   pub started : Started s good run
+  pub first_start : (p : ℕ) → run.starts 0 p ≡ first p
+  pub lost :
+      (k p : ℕ) → k ≤ rounds → GoodNode s.cluster good p → lead (run.sends k p) +ℤ pos (losses k p) ≡ lead (run.starts k p)
+  pub delayed : (k p q : ℕ) → (run.begins k p q).common ≡ (run.sends k q).common + delays k p q
+  pub lasted : (k p q : ℕ) → (run.over k p q).common ≡ (run.begins k p q).common + lengths k p q
   pub lied : (k p q : ℕ) → q < s.cluster.nodes → good q ≡ false → slice_index_or (run.heard k p) q None ≡ lies k p q
 
 abbrev pub RunCanBeGiven : Type 0
 RunCanBeGiven =
-    (s : Schedule) (good : ℕ → Bool) (rounds : ℕ) (lies : ℕ → ℕ → ℕ → Option ℤ) → FewBad s.cluster good → 1 ≤ s.message →
-    ((p : ℕ) → GoodNode s.cluster good p → send_time_of (timing_of s) (slot_of (timing_of s) rounds p) < clock_limit) →
-    ((k p q : ℕ) → FromSlot (timing_of s) (slot_of (timing_of s) k q) (lies k p q)) → RunGiven s good rounds lies
+    (s : Schedule) (good : ℕ → Bool) (rounds : ℕ) (first : ℕ → Moment) (losses : ℕ → ℕ → ℕ) (delays lengths : ℕ → ℕ → ℕ → ℕ)
+    (lies : ℕ → ℕ → ℕ → Option ℤ) → Choice s good rounds first losses delays lengths lies → RunGiven s good rounds first losses delays lengths lies
