@@ -240,7 +240,7 @@ module _ (s : Schedule) (good : ℕ → Bool) (rounds : ℕ) (first : ℕ → Mo
       sending = λ k p h g.
           let le = early k p h g in
           let l = due_below k p h g in
-          (runs_on (starts k p) (losses k p) (sending (starts k) k p) (due k p) (omega arith) (omega arith) le l, omega arith, shows (starts k p) (losses k p) (due k p) le l);
+          (runs_on (starts k p) (losses k p) (sending (starts k) k p) (due k p) (omega arith) (omega arith) le l, shows (starts k p) (losses k p) (due k p) le l);
       ending = λ k p h g.
           let le = early k p (omega arith) g in
           (runs_on (starts k p) (losses k p) (ending (starts k) k p).common (round_end_of t k) (omega arith) (omega arith) (omega (arith, due_in k p g)) (omega (arith, ends_below k p h g)), ends_right k p h g le);

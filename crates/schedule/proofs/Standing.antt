@@ -32,30 +32,55 @@ module _ (s : Schedule) (good : ℕ → Bool) (rounds : ℕ) (r : Run) (few : Fe
   steady : (k p : ℕ) (a b : Moment) → k ≤ rounds → Good p → r.of_round k p a ≡ true → r.of_round k p b ≡ true → SameRound s.cluster a b
   steady k p a b h g ia ib = (law.drifts k p a b h g ia ib, law.drifts k p b a h g ib ia)
 
-  ends_before : (k p : ℕ) → k < rounds → Good p → (r.ends k p).common ≤ (r.sends (suc k) p).common
-  ends_before k p h g = omega (arith, (law.setting k p h g).0, (law.sending (suc k) p h g).1)
-
-  sends_end : (k p : ℕ) → k < rounds → Good p → (r.sends k p).common ≤ (r.ends k p).common
-  sends_end k p h g =
-      let (sent, _, due) = law.sending k p (omega arith) g in
-      let (ended, shows) = law.ending k p h g in
-      let run = ahead_by (r.ends k p) (r.sends k p) s.cluster.drift (law.drifts k p (r.ends k p) (r.sends k p) (omega arith) g ended sent) in
-      omega (arith, over_in_round s k p (instant (r.sends k p)) (instant (r.ends k p)) g.0 due shows (omega arith))
-
-  sends_rise : (k j p : ℕ) → k ≤ j → j ≤ rounds → Good p → (r.sends k p).common ≤ (r.sends j p).common
-  sends_rise k j p le h g =
-      rises (λ i. (r.sends i p).common) rounds (λ i l. omega (arith, sends_end i p l g, ends_before i p l g)) k j le h
+  drifted : (k p : ℕ) (a b : Moment) → k ≤ rounds → Good p → r.of_round k p a ≡ true → r.of_round k p b ≡ true →
+      AheadBy s.cluster.drift (instant a) (instant b)
+  drifted k p a b h g ia ib = ahead_by a b s.cluster.drift (law.drifts k p a b h g ia ib)
 
   -- a round ends a pause before the limit, since the node still sends in the next one
   room : (k p : ℕ) → k < rounds → Good p → (r.ends k p).clock.shown + s.pause < clock_limit
   room k p h g =
-      omega (arith, (law.ending k p h g).1, behind_round s k p, (law.sending (suc k) p h g).2, (r.sends (suc k) p).clock.below)
+      omega (arith, (law.ending k p h g).1, behind_round s k p, (law.sending (suc k) p h g).1, (r.sends (suc k) p).clock.below)
 
   -- whatever was heard, no clock is set farther ahead than by the pause
   set_le : (k p : ℕ) → k < rounds → Good p → (r.starts (suc k) p).clock.shown ≤ round_end_of t k + s.pause
   set_le k p h g =
       let high = settles_no_farther s k (r.ends k p).clock.shown p (r.heard k p) (room k p h g) (λ q l. law.from_slots k p q h g l) in
       omega (arith, high, (law.setting k p h g).1.its_shown, (law.ending k p h g).1)
+
+  -- so a node does not send in the next round long before that begins, nor is a round over before it begins
+  sends_behind : (k p : ℕ) → k < rounds → Good p →
+      slot_start t (slot (suc k) p) + (r.ends k p).common ≤ round_end_of t k + (r.sends (suc k) p).common + s.cluster.drift
+  sends_behind k p h g =
+      let (sent, due) = law.sending (suc k) p h g in
+      omega (
+        arith,
+        drifted (suc k) p (r.sends (suc k) p) (r.starts (suc k) p) h g sent (law.starting (suc k) p h g),
+        set_le k p h g,
+        (law.setting k p h g).0,
+      )
+
+  ends_behind : (k p : ℕ) → 0 < k → k < rounds → Good p → (r.starts k p).common ≤ (r.ends k p).common
+  ends_behind zero p more h g = absurd (omega arith)
+  ends_behind (suc k) p more h g =
+      let (ended, shows) = law.ending (suc k) p h g in
+      omega (
+        arith,
+        drifted (suc k) p (r.ends (suc k) p) (r.starts (suc k) p) (omega arith) g ended (law.starting (suc k) p (omega arith) g),
+        set_le k p (omega arith) g,
+        behind_round s k p,
+        in_round s (suc k) p g.0,
+        s.behind,
+      )
+
+  sends_end : (k p : ℕ) → k < rounds → Good p → (r.sends k p).common + s.cluster.drift ≤ (r.ends k p).common
+  sends_end k p h g =
+      let (sent, due) = law.sending k p (omega arith) g in
+      let (ended, shows) = law.ending k p h g in
+      omega (arith, drifted k p (r.ends k p) (r.sends k p) (omega arith) g ended sent, in_round s k p g.0, s.behind)
+
+  sends_rise : (k j p : ℕ) → k ≤ j → j ≤ rounds → Good p → (r.sends k p).common ≤ (r.sends j p).common
+  sends_rise k j p le h g =
+      rises (λ i. (r.sends i p).common) rounds (λ i l. omega (arith, sends_end i p l g, sends_behind i p l g, behind_round s i p)) k j le h
 
   -- What is known of a round as it begins: the clocks are within the bound, no message of it was missed, and those of earlier ones are over.
   record Ready (k : ℕ) : Type 0 where
@@ -82,7 +107,7 @@ module _ (s : Schedule) (good : ℕ → Bool) (rounds : ℕ) (r : Run) (few : Fe
 
       over_in : (p q : ℕ) → Good p → Good q → (r.sends k q).common + s.wire + s.message ≤ (r.ends k p).common
       over_in p q gp gq =
-          let (sent, _, due) = law.sending k q le gq in
+          let (sent, due) = law.sending k q le gq in
           let (ended, shows) = law.ending k p h gp in
           over_in_round s k q (instant (r.sends k q)) (instant (r.ends k p)) gq.0 due shows (near_by p q (r.ends k p) (r.sends k q) le gp gq ended sent)
 
@@ -97,7 +122,7 @@ module _ (s : Schedule) (good : ℕ → Bool) (rounds : ℕ) (r : Run) (few : Fe
         whole : whole_in t (slot k q) q (r.begins k p q).clock.shown (r.over k p q).clock.shown ≡ true
         whole =
             let (way, _, _) = law.carried k p q le gp gq d in
-            let (sent, _, due) = law.sending k q le gq in
+            let (sent, due) = law.sending k q le gq in
             subst (λ wire. whole_in t (slot k q) wire (r.begins k p q).clock.shown (r.over k p q).clock.shown ≡ true)
             (mod-mul-add k s.cluster.nodes q gq.0)
             (hears_whole s (slot k q) (instant (r.sends k q)) (instant (r.begins k p q)) (instant (r.over k p q)) due way
@@ -108,7 +133,7 @@ module _ (s : Schedule) (good : ℕ → Bool) (rounds : ℕ) (r : Run) (few : Fe
         in_its_slot : (slot_start t (slot k q) ≤ (r.begins k p q).clock.shown) × ((r.begins k p q).clock.shown ≤ (r.ends k p).clock.shown)
         in_its_slot =
             let (way, _, _) = law.carried k p q le gp gq d in
-            let (sent, _, due) = law.sending k q le gq in
+            let (sent, due) = law.sending k q le gq in
             let near = near_by p q (r.begins k p q) (r.sends k q) le gp gq falls_in.0 sent in
             let fits = in_round s k q gq.0 in
             (grind (arith, nat_tests, whole), omega (arith, way.arrives, s.behind, (law.ending k p h gp).1))
@@ -118,19 +143,15 @@ module _ (s : Schedule) (good : ℕ → Bool) (rounds : ℕ) (r : Run) (few : Fe
         later_out j after u w =
             let (way, _, _) = law.carried j p q u gp gq d in
             let (_, over) = law.falls_in k j p q h u gp gq d w.begun_in w.over_in in
-            let (sent, _, due) = law.sending (suc k) q h gq in
             let (ended, shows) = law.ending k p h gp in
             let (other, shows_other) = law.ending k q h gq in
             let inside : (r.over j p q).clock.shown ≤ slot_end_of t (slot k q) = grind (arith, nat_tests, w.whole) in
             let turn : slot k q + 1 < slot (suc k) q = omega (arith, add-mul k 1 s.cluster.nodes, s.cluster.enough) in
             omega (
               arith,
-              ahead_by (r.ends k p) (r.over j p q) s.cluster.drift (law.drifts k p (r.ends k p) (r.over j p q) le gp ended over),
+              drifted k p (r.ends k p) (r.over j p q) le gp ended over,
               near_by q p (r.ends k q) (r.ends k p) le gq gp other ended,
-              ahead_by (r.sends (suc k) q) (r.starts (suc k) q) s.cluster.drift
-                  (law.drifts (suc k) q (r.sends (suc k) q) (r.starts (suc k) q) h gq sent (law.starting (suc k) q h gq)),
-              set_le k q h gq,
-              (law.setting k q h gq).0,
+              sends_behind k q h gq,
               sends_rise (suc k) j q after u gq,
               starts_later t (slot k q + 1) (slot (suc k) q) turn,
               slot_long t (slot k q + 1),
@@ -158,7 +179,7 @@ module _ (s : Schedule) (good : ℕ → Bool) (rounds : ℕ) (r : Run) (few : Fe
       heard_round = record {
         sent = r.sends k;
         began = r.begins k;
-        sends = λ q g. (law.sending k q le g).2;
+        sends = λ q g. (law.sending k q le g).1;
         leaves = λ p q gp gq d. (law.carried k p q le gp gq d).0.leaves;
         on_time = λ p q gp gq d. (law.carried k p q le gp gq d).1;
         sender_runs = λ q g. steady k q (r.ends k q) (r.sends k q) le g (law.ending k q h g).0 (law.sending k q le g).0;
@@ -196,26 +217,27 @@ module _ (s : Schedule) (good : ℕ → Bool) (rounds : ℕ) (r : Run) (few : Fe
       sets_to : (p : ℕ) → Good p → (one_round.set p).shown ≡ (r.starts (suc k) p).clock.shown
       sets_to p g = (one_round.sets p g).its_shown ∙ sym (law.setting k p h g).1.its_shown
 
+      set_before : (p q : ℕ) → Good p → Good q → (r.ends k p).common ≤ (r.sends (suc k) q).common
+      unfolding next
+      set_before p q gp gq =
+          let later = div-mul-add (suc k) s.cluster.nodes q gq.0 in
+          sets_before s good (r.heard k) (r.ends k) next k (slot (suc k) q) q p few one_round ends_apart gq gp (law.ending k p h gp).1 (omega arith)
+          (law.sending (suc k) q h gq).1
+
       ready_next : Ready (suc k)
       unfolding next
       ready_next = record {
         near = λ p q gp gq.
             let closer = set_closer s.cluster good (r.heard k) (r.ends k) next few one_round (width_of s.cluster) ends_apart p q gp gq in
             omega (arith, ints, sets_to p gp, sets_to q gq, (law.setting k p h gp).0, (law.setting k q h gq).0);
-        listens = λ p q gp gq d.
-            let later = div-mul-add (suc k) s.cluster.nodes q gq.0 in
-            let set =
-            sets_before s good (r.heard k) (r.ends k) next k (slot (suc k) q) q p few one_round ends_apart gq gp (law.ending k p h gp).1 (omega arith)
-            (law.sending (suc k) q h gq).2 in
-            omega (arith, set, (law.setting k p h gp).0, (law.carried (suc k) p q h gp gq d).0.leaves);
+        listens = λ p q gp gq d. omega (arith, set_before p q gp gq, (law.setting k p h gp).0, (law.carried (suc k) p q h gp gq d).0.leaves);
         past = λ j p q less gp gq d.
             elim (cases_lt j k) [
               | inl before ↦
                   omega (
                     arith,
                     ready.past j p q before gp gq d,
-                    (law.sending k p le gp).1,
-                    sends_end k p h gp,
+                    ends_behind k p (omega arith) h gp,
                     (law.setting k p h gp).0,
                   )
               | inr same ↦ let e : j ≡ k = omega arith in rw e (omega (arith, lasts p q gp gq d, (law.setting k p h gp).0))
@@ -232,10 +254,10 @@ module _ (s : Schedule) (good : ℕ → Bool) (rounds : ℕ) (r : Run) (few : Fe
 
     course : Course s good rounds (λ k p. instant (r.sends k p)) (λ k p. instant (r.ends k p))
     course = record {
-      sent = λ k p h g. (law.sending k p h g).2;
+      sent = λ k p h g. (law.sending k p h g).1;
       over = λ k p h g. (law.ending k p h g).1;
-      before_the_end = sends_end;
-      behind_it = ends_before;
+      before_the_end = λ k p h g. omega (arith, sends_end k p h g);
+      behind_it = λ k p h g. set_before k (known k (omega arith)) h p p g g;
       sends_together = λ k p q h gp gq.
           near_by k (known k h) q p (r.sends k q) (r.sends k p) h gq gp (law.sending k q h gq).0 (law.sending k p h gp).0;
       ends_together = λ k p q h gp gq.
@@ -253,6 +275,7 @@ module _ (s : Schedule) (good : ℕ → Bool) (rounds : ℕ) (r : Run) (few : Fe
       heard = λ k p q h. heard k (known k (omega arith)) h p q;
       apart = λ k j p q hk hj gp gq order.
           nothing_overlaps_lem s good rounds (λ i n. instant (r.sends i n)) (λ i n. instant (r.ends i n)) k j p q course hk hj gp gq order;
+      set_before = λ k p q h. set_before k (known k (omega arith)) h p q;
       in_time = λ k p h g. omega (arith, set_le k p h g, behind_round s k p);
     }
 

@@ -44,8 +44,7 @@ pub record Lawful (s : Schedule) (good : ℕ → Bool) (rounds : ℕ) (r : Run) 
   pub starting : (k p : ℕ) → k ≤ rounds → GoodNode s.cluster good p → r.of_round k p (r.starts k p) ≡ true
   pub sending :
       (k p : ℕ) → k ≤ rounds → GoodNode s.cluster good p →
-      (r.of_round k p (r.sends k p) ≡ true) × ((r.starts k p).common ≤ (r.sends k p).common)
-      × Sends (timing_of s) (slot_of (timing_of s) k p) (instant (r.sends k p))
+      (r.of_round k p (r.sends k p) ≡ true) × Sends (timing_of s) (slot_of (timing_of s) k p) (instant (r.sends k p))
   pub ending :
       (k p : ℕ) → k < rounds → GoodNode s.cluster good p →
       (r.of_round k p (r.ends k p) ≡ true) × ((r.ends k p).clock.shown ≡ round_end_of (timing_of s) k)
@@ -105,7 +104,9 @@ pub record Standing (s : Schedule) (good : ℕ → Bool) (rounds : ℕ) (r : Run
   pub apart :
       (k j p q : ℕ) → k ≤ rounds → j ≤ rounds → GoodNode s.cluster good p → GoodNode s.cluster good q →
       slot_of (timing_of s) k p < slot_of (timing_of s) j q → (r.sends k p).common + s.wire + s.message ≤ (r.sends j q).common
-  -- and a setting never takes a node past the time at which it is to send
+  -- every good clock is set before a good node sends in the next round, and no setting takes a node past the time at which it is to send
+  pub set_before :
+      (k p q : ℕ) → k < rounds → GoodNode s.cluster good p → GoodNode s.cluster good q → (r.ends k p).common ≤ (r.sends (suc k) q).common
   pub in_time :
       (k p : ℕ) → k < rounds → GoodNode s.cluster good p → (r.starts (suc k) p).clock.shown ≤ send_time_of (timing_of s) (slot_of (timing_of s) (suc k) p)
 
