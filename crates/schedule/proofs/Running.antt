@@ -185,6 +185,18 @@ module _ (s : Schedule) (good : ℕ → Bool) (rounds : ℕ) (first : ℕ → Mo
     early zero p h g = omega (arith, choice.early p g)
     early (suc k) p h g = omega (arith, behind_round s k p, sets_le k p h g (early k p (omega arith) g))
 
+    -- the clock keeps up until the round ends
+    in_its_round : (k p x : ℕ) → k < rounds → GoodNode s.cluster good p → (starts k p).common ≤ x → x ≤ (run.ends k p).common →
+        run.of_round k p (at (starts k) k p x) ≡ true
+    unfolding run
+    in_its_round k p x h g low high =
+        runs_on (starts k p) (losses k p) x (round_end_of t k) low high (omega (arith, early k p (omega arith) g, due_in k p g))
+        (omega (arith, ends_below k p h g))
+
+    ends_later : (k p q : ℕ) → (run.begins k p q).common < (run.over k p q).common
+    unfolding run
+    ends_later k p q = omega (arith, (choice.lasting k p q).0)
+
     -- a message that falls into a round of the receiver is timed by its clock in that round
     module _ (k j p q : ℕ) (h : k < rounds) (g : GoodNode s.cluster good p) (low : (starts k p).common ≤ (run.begins j p q).common)
         (high : (run.over j p q).common ≤ (run.ends k p).common) where
@@ -193,23 +205,17 @@ module _ (s : Schedule) (good : ℕ → Bool) (rounds : ℕ) (first : ℕ → Mo
       timed =
           let x = beginning (starts j) j p q in
           let y = x + lengths j p q in
-          let (some, _) = choice.lasting j p q in
+          let later = ends_later j p q in
           let e = in_round_at rounds k p x (omega arith) low (omega arith) in
           let f = in_round_at rounds k p (y - 1) (omega arith) (omega arith) (omega arith) in
           (ap (λ i. at (starts i) i p x) e, ap (λ i. at (starts i) i p y) f)
 
       in_round_then : (run.of_round k p (run.begins j p q) ≡ true) × (run.of_round k p (run.over j p q) ≡ true)
-      unfolding run
       in_round_then =
-          let end = round_end_of t k in
-          let m = starts k p in
-          let loss = losses k p in
           let (begun, over) = timed in
-          let (some, _) = choice.lasting j p q in
-          let le : m.clock.shown ≤ end = omega (arith, early k p (omega arith) g, due_in k p g) in
-          let below : end < clock_limit = omega (arith, ends_below k p h g) in (
-            subst (λ a. keeps_up m loss a ≡ true) (sym begun) (runs_on m loss (run.begins j p q).common end low (omega arith) le below),
-            subst (λ a. keeps_up m loss a ≡ true) (sym over) (runs_on m loss (run.over j p q).common end (omega arith) high le below),
+          let later = ends_later j p q in (
+            subst (λ a. run.of_round k p a ≡ true) (sym begun) (in_its_round k p (run.begins j p q).common h g low (omega arith)),
+            subst (λ a. run.of_round k p a ≡ true) (sym over) (in_its_round k p (run.over j p q).common h g (omega arith) high),
           )
 
     -- and heard, where it is whole in its slot
@@ -239,11 +245,12 @@ module _ (s : Schedule) (good : ℕ → Bool) (rounds : ℕ) (first : ℕ → Mo
       starting = λ k p h g. grind (arith, nat_tests);
       sending = λ k p h g.
           let le = early k p h g in
-          let l = due_below k p h g in
-          (runs_on (starts k p) (losses k p) (sending (starts k) k p) (due k p) (omega arith) (omega arith) le l, shows (starts k p) (losses k p) (due k p) le l);
+          let l = due_below k p h g in (
+            runs_on (starts k p) (losses k p) (sending (starts k) k p) (due k p) (omega arith) (omega arith) le l,
+            shows (starts k p) (losses k p) (due k p) le l,
+          );
       ending = λ k p h g.
-          let le = early k p (omega arith) g in
-          (runs_on (starts k p) (losses k p) (ending (starts k) k p).common (round_end_of t k) (omega arith) (omega arith) (omega (arith, due_in k p g)) (omega (arith, ends_below k p h g)), ends_right k p h g le);
+          (in_its_round k p (ending (starts k) k p).common h g (omega arith) (omega arith), ends_right k p h g (early k p (omega arith) g));
       setting = λ k p h g.
           (refl, record { its_shown = omega (arith, sets_le k p h g (early k p (omega arith) g), ends_below k p h g); its_round = refl });
       carried = λ k p q h gp gq d.

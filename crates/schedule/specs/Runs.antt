@@ -34,7 +34,7 @@ pub record WholeFor (s : Schedule) (r : Run) (k j p q : ℕ) : Type 0 where
 
 -- What is asked of a run over so many rounds, and of the next one as far as it goes. Nothing is asked of the faulty nodes but that what is heard of
 -- them comes from their slots. It is not asked that messages are heard, that they fall into the receiver's round of the same number, that no other
--- falls there, or that readings are right.
+-- falls there, that clocks are set in time, or that readings are right.
 pub record Lawful (s : Schedule) (good : ℕ → Bool) (rounds : ℕ) (r : Run) : Type 0 where
   -- in a round a clock runs off by no more than the drift between any two moments
   pub drifts :
@@ -117,12 +117,12 @@ Stands =
     (s : Schedule) (good : ℕ → Bool) (rounds : ℕ) (r : Run) → FewBad s.cluster good → Lawful s good rounds r → Started s good r →
     Standing s good rounds r
 
--- There are such runs, for as many rounds as clocks can show, and this may be chosen of them: the clocks as the first round begins, how much each
--- loses in a round, how long each message is on its way and lasts, and what is heard of faulty nodes in their slots.
+-- There are such runs, over as many rounds as clocks can show. This may be chosen of them: the good clocks as the first round begins, how much each
+-- has lost in a round when its node sends, how long each message is on its way and lasts, and what is heard of the faulty nodes in their slots.
 pub record Choice
     (s : Schedule) (good : ℕ → Bool) (rounds : ℕ) (first : ℕ → Moment) (losses : ℕ → ℕ → ℕ) (delays lengths : ℕ → ℕ → ℕ → ℕ)
     (lies : ℕ → ℕ → ℕ → Option ℤ) : Type 0 where
-  -- the clocks are within the bound, and show so little that none has missed the first message
+  -- the clocks are within the bound, and show so little that none misses the first message
   pub near : Apart s.cluster good (bound_of s.cluster) first
   pub early : (p : ℕ) → GoodNode s.cluster good p → (first p).clock.shown + bound_of s.cluster ≤ s.pause
   pub steady : (k p : ℕ) → losses k p ≤ s.cluster.drift

@@ -149,8 +149,9 @@ pub fn round_can_be_heard() -> u8
     0
 }
 
-/// What they ask of a run of good nodes over many rounds can be met, for as many as clocks can show and
-/// whatever is heard of the faulty nodes in their slots.
+/// A run as it is asked for where good nodes stand together exists: over as many rounds as clocks can show,
+/// with clocks that start apart and lose time, messages that are delayed, and anything heard of the faulty
+/// nodes in their slots.
 pub fn run_can_be_given() -> u8
     ensures { RunCanBeGiven }
 {
