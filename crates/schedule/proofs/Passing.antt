@@ -1,22 +1,25 @@
 -- Messages that pass from node to node: they are whole in their slot, find clocks that are set, and do not overlap. Assumes nothing.
 use borrow.Author.Differences.{ints}
-use Rattle.std.proofs.Common.{◌≡◌, ℕ, zero, suc, ◌+◌, ◌*◌, ◌<◌, ◌≤◌, Bool, eqb, List, get_or, ℤ, pos, ◌+ℤ◌, ◌-ℤ◌, ◌≤ℤ◌, Some, None, Option, sym, inl, inr, mul-le-mul_right, add-mul, div-mul-le_self, arith}
+use Rattle.std.proofs.Common.{◌≡◌, ℕ, zero, suc, ◌+◌, ◌*◌, ◌<◌, ◌≤◌, Bool, true, false, eqb, List, get_or, ℤ, pos, ◌+ℤ◌, ◌-ℤ◌, ◌≤ℤ◌, Some, None, Option, sym, refl, inl, inr, mul-le-mul_right, add-mul, div-mul-le_self, arith}
 use Rattle.std.proofs.lemmas.Bool.{cases_Bool, cases_lt, ne_eqb}
 use Rattle.std.proofs.lemmas.Bool.Decides.{nat_tests}
+use Rattle.std.specs.List.{range_with_len}
 use Rattle.midpoint.specs.Setting.{clock_limit}
+use Rattle.midpoint.proofs.Sorting.{count_none}
 use Rattle.clock.specs.Config.{bound_of, width_of}
 use Rattle.clock.specs.Deviation.{deviation_of, moved}
 use Rattle.clock.specs.Rounds.{Moment, lead, GoodNode, FewBad, Apart, Round}
-use Rattle.clock.specs.Setting.{read_of}
-use Rattle.clock.proofs.Rounds.{stays_between}
+use Rattle.clock.specs.Setting.{read_of, reads, readings, settled}
+use Rattle.clock.proofs.Nodes.{midpoint_within}
+use Rattle.clock.proofs.Rounds.{not_turned_away, stays_between}
 use Rattle.schedule.specs.Config.{timing_of}
-use Rattle.schedule.specs.Messages.{Instant, instant, AheadBy, Course, FromSlot}
+use Rattle.schedule.specs.Messages.{Instant, instant, AheadBy, Sends, Course, FromSlot}
 use Rattle.schedule.specs.Slots.{Timing, owner_of, round_of, slot_of, slot_start, slot_end_of, round_end_of}
 use Rattle.schedule.specs.Theorems.{HearsWhole, HearsGoodNodes, ReadsRight, MakesARound, SetsBefore, NothingOverlaps, SetInTime}
 use Rattle.schedule.specs.declared.limits.Schedule.{Schedule}
 
 -- a slot ends a length behind its start
-slot_long : (t : Timing) (slot : ℕ) → slot_end_of t slot ≡ slot_start t slot + t.length
+pub slot_long : (t : Timing) (slot : ℕ) → slot_end_of t slot ≡ slot_start t slot + t.length
 slot_long t slot = omega (arith, add-mul slot 1 t.length)
 
 pub hears_whole : HearsWhole
@@ -26,7 +29,7 @@ hears_whole s slot sent began ended sends way early late =
     grind (arith, nat_tests)
 
 -- clocks that are compared by what they are ahead of common time
-ahead_by : (a b : Moment) (d : ℕ) → lead a ≤ℤ (lead b +ℤ pos d) → AheadBy d (instant a) (instant b)
+pub ahead_by : (a b : Moment) (d : ℕ) → lead a ≤ℤ (lead b +ℤ pos d) → AheadBy d (instant a) (instant b)
 ahead_by a b d h = omega (arith, ints)
 
 pub hears_good_nodes : HearsGoodNodes
@@ -64,6 +67,12 @@ read_from_slot : (t : Timing) (slot own : ℕ) (heard : Option ℤ) → FromSlot
 read_from_slot t slot own None from = omega arith
 read_from_slot t slot own (Some deviation) (began, low, e) = rw e (grind (arith, ints))
 
+reads_from_slot : (t : Timing) (slot own p q : ℕ) (heard : List (Option ℤ)) → FromSlot t slot (get_or heard q None) →
+    reads p own heard q ≤ own + t.pause
+reads_from_slot t slot own p q heard from =
+    let le = read_from_slot t slot own (get_or heard q None) from in
+    elim (cases_Bool (eqb q p)) [ inl same ↦ rw same (omega arith) | inr other ↦ rw other le ]
+
 pub makes_a_round : MakesARound
 makes_a_round s good round heard ends after set h sets runs counts = record {
   fair = λ p q gp gq d.
@@ -76,14 +85,29 @@ makes_a_round s good round heard ends after set h sets runs counts = record {
       let e = h.hears p q gp gq d in
       rw (other, e) right;
   taken = λ p q g l.
-      let room = h.room p g in
-      let le = read_from_slot (timing_of s) (slot_of (timing_of s) round q) (ends p).clock.shown (get_or (heard p) q None) (h.from_slots p q g l) in
-      elim (cases_Bool (eqb q p)) [ inl same ↦ rw same (omega arith) | inr other ↦ rw other (omega arith) ];
+      omega (
+        arith,
+        h.room p g,
+        reads_from_slot (timing_of s) (slot_of (timing_of s) round q) (ends p).clock.shown p q (heard p) (h.from_slots p q g l),
+      );
   set = set;
   sets = sets;
   runs = runs;
   counts = counts;
 }
+
+-- so nor is a clock set past it
+pub settles_no_farther : (s : Schedule) (round own p : ℕ) (heard : List (Option ℤ)) → own + s.pause < clock_limit →
+    ((q : ℕ) → q < s.cluster.nodes → FromSlot (timing_of s) (slot_of (timing_of s) round q) (get_or heard q None)) →
+    settled s.cluster.faults own (readings s.cluster.nodes p own heard) ≤ own + s.pause
+unfolding readings
+settles_no_farther s round own p heard room from =
+    let each : (q : ℕ) → q < s.cluster.nodes → reads p own heard q ≤ own + s.pause =
+    λ q h. reads_from_slot (timing_of s) (slot_of (timing_of s) round q) own p q heard (from q h) in
+    let t = not_turned_away s.cluster (reads p own heard) (λ q h. omega (arith, room, each q h)) in
+    let none = count_none (λ q. false) (range_with_len 0 s.cluster.nodes) (λ i d h. refl) in
+    rw t
+    (midpoint_within s.cluster (λ q. true) (reads p own heard) 0 (own + s.pause) (omega arith) (λ q h b. (omega arith, omega (arith, each q h)))).1
 
 -- a good clock is set to no more than width, error and drift ahead of any good clock before it was set
 not_far_ahead : (s : Schedule) (good : ℕ → Bool) (heard : ℕ → List (Option ℤ)) (before after : ℕ → Moment) (p q : ℕ) → FewBad s.cluster good →
@@ -115,10 +139,10 @@ set_in_time s good heard before after p q slot at setting few course apart gp gq
     omega (arith, ints)
 
 -- a later slot starts when a slot has ended, or later
-starts_later : (t : Timing) (slot later : ℕ) → slot < later → slot_end_of t slot ≤ slot_start t later
+pub starts_later : (t : Timing) (slot later : ℕ) → slot < later → slot_end_of t slot ≤ slot_start t later
 starts_later t slot later h = mul-le-mul_right t.length (omega arith)
 
-rises : (f : ℕ → ℕ) (n : ℕ) → ((i : ℕ) → i < n → f i ≤ f (suc i)) → (k j : ℕ) → k ≤ j → j ≤ n → f k ≤ f j
+pub rises : (f : ℕ → ℕ) (n : ℕ) → ((i : ℕ) → i < n → f i ≤ f (suc i)) → (k j : ℕ) → k ≤ j → j ≤ n → f k ≤ f j
 rises f n step k zero le h = let e : k ≡ 0 = omega arith in rw e (omega arith)
 rises f n step k (suc j) le h =
     elim (cases_lt k (suc j)) [
@@ -134,6 +158,15 @@ in_round s k p h =
     let l : slot_of (timing_of s) k p + 1 ≤ (k + 1) * n = omega (arith, add-mul k 1 n) in
     omega (arith, mul-le-mul_right s.length l, slot_long (timing_of s) (slot_of (timing_of s) k p))
 
+-- and those of the next one start when it has ended
+pub behind_round : (s : Schedule) (k p : ℕ) → round_end_of (timing_of s) k ≤ slot_start (timing_of s) (slot_of (timing_of s) (suc k) p)
+behind_round s k p = mul-le-mul_right s.length (omega (arith, add-mul k 1 s.cluster.nodes))
+
+-- what is sent in a round is over when it ends by a clock within the width
+pub over_in_round : (s : Schedule) (k p : ℕ) (sent end : Instant) → p < s.cluster.nodes → Sends (timing_of s) (slot_of (timing_of s) k p) sent →
+    end.shown ≡ round_end_of (timing_of s) k → AheadBy (width_of s.cluster) end sent → sent.common + s.wire + s.message ≤ end.common
+over_in_round s k p sent end l sends ends near = omega (arith, s.behind, in_round s k p l)
+
 module _ (s : Schedule) (good : ℕ → Bool) (rounds : ℕ) (sends ends : ℕ → ℕ → Instant) (course : Course s good rounds sends ends) where
   abbrev slot : ℕ → ℕ → ℕ
   slot k p = slot_of (timing_of s) k p
@@ -142,7 +175,7 @@ module _ (s : Schedule) (good : ℕ → Bool) (rounds : ℕ) (sends ends : ℕ �
   over_in : (k p q : ℕ) → k < rounds → GoodNode s.cluster good p → GoodNode s.cluster good q →
       (sends k p).common + s.wire + s.message ≤ (ends k q).common
   over_in k p q h gp gq =
-      omega (arith, course.sent k p (omega arith) gp, course.over k q h gq, course.ends_together k p q h gp gq, s.behind, in_round s k p gp.0)
+      over_in_round s k p (sends k p) (ends k q) gp.0 (course.sent k p (omega arith) gp) (course.over k q h gq) (course.ends_together k p q h gp gq)
 
   sends_rise : (k j q : ℕ) → k ≤ j → j ≤ rounds → GoodNode s.cluster good q → (sends k q).common ≤ (sends j q).common
   sends_rise k j q le h gq =

@@ -1,6 +1,6 @@
 -- What the theorems ask of good nodes and of messages can be met. Assumes nothing.
 use borrow.Author.Differences.{ints}
-use Rattle.std.proofs.Common.{◌≡◌, ℕ, suc, ◌+◌, ◌-◌, ◌<◌, ◌≤◌, min, Bool, cond, List, ℤ, Some, Option, refl, ap, ◌∙◌, inl, inr, mul-le-mul_right, add-mul, arith}
+use Rattle.std.proofs.Common.{◌≡◌, ℕ, ◌+◌, ◌-◌, ◌<◌, min, Bool, cond, List, ℤ, Some, Option, refl, ap, ◌∙◌, inl, inr, arith}
 use Rattle.std.proofs.lemmas.Bool.{cases_Bool}
 use Rattle.midpoint.specs.Setting.{clock_limit}
 use Rattle.clock.specs.Config.{width_of}
@@ -9,10 +9,10 @@ use Rattle.clock.specs.Rounds.{Moment}
 use Rattle.clock.proofs.Heard.{as_heard, heard_of}
 use Rattle.schedule.specs.Config.{timing_of}
 use Rattle.schedule.specs.Messages.{Instant, Course, FromSlot, HeardRound}
-use Rattle.schedule.specs.Slots.{slot_of, slot_start, send_time_of, round_end_of}
+use Rattle.schedule.specs.Slots.{slot_of, send_time_of, round_end_of}
 use Rattle.schedule.specs.Possible.{Leads, CourseCanBeRun, MessageCanPass, RoundCanBeHeard}
 use Rattle.schedule.specs.declared.limits.Schedule.{Schedule}
-use Rattle.schedule.proofs.Passing.{in_round}
+use Rattle.schedule.proofs.Passing.{in_round, behind_round}
 
 module _ (s : Schedule) (good : ℕ → Bool) (rounds : ℕ) (leads : ℕ → ℕ → ℕ) (most : ℕ) (given : Leads s good leads most) where
   -- a clock that shows a time in a round
@@ -25,16 +25,13 @@ module _ (s : Schedule) (good : ℕ → Bool) (rounds : ℕ) (leads : ℕ → �
   abbrev ends : ℕ → ℕ → Instant
   ends k p = shows k p (round_end_of (timing_of s) k)
 
-  behind_round : (k p : ℕ) → round_end_of (timing_of s) k ≤ slot_start (timing_of s) (slot_of (timing_of s) (suc k) p)
-  behind_round k p = mul-le-mul_right s.length (omega (arith, add-mul k 1 s.cluster.nodes))
-
   runs : Course s good rounds sends ends
   unfolding shows
   runs = record {
     sent = λ k p h g. refl;
     over = λ k p h g. refl;
     before_the_end = λ k p h g. omega (arith, in_round s k p g.0, s.behind);
-    behind_it = λ k p h g. omega (arith, behind_round k p, given.steps k p, given.below k p);
+    behind_it = λ k p h g. omega (arith, behind_round s k p, given.steps k p, given.below k p);
     sends_together = λ k p q h gp gq. omega (arith, given.near k q p gq gp, given.below k p, given.below k q);
     ends_together = λ k p q h gp gq. omega (arith, given.near k q p gq gp, given.below k p, given.below k q);
   }

@@ -1,7 +1,8 @@
 //! The theorems of this crate. Each function's contract is one statement of `specs/Theorems.antt`,
-//! `specs/Tight.antt` or `specs/Possible.antt`, so that the crate is not proved without it; what the function
-//! does is nothing.
+//! `specs/Runs.antt`, `specs/Tight.antt` or `specs/Possible.antt`, so that the crate is not proved without
+//! it; what the function does is nothing.
 ghost use Rattle.schedule.specs.Theorems.{SlotsFollow, HearsTheOnlyOne, HearsWhole, HearsTheMessage, HearsGoodNodes, ReadsRight, ReadsNoFarther, MakesARound, SetsBefore, NothingOverlaps, Heard, NeverOver, SetInTime};
+ghost use Rattle.schedule.specs.Runs.{Stands, RunCanBeGiven};
 ghost use Rattle.schedule.specs.Tight.{LengthIsTight, ShortLengthFails, ShortPauseFails};
 ghost use Rattle.schedule.specs.Possible.{CourseCanBeRun, MessageCanPass, RoundCanBeHeard};
 
@@ -72,6 +73,12 @@ pub fn set_in_time_with_leads()
     ensures { SetInTime }
 {}
 
+/// Good clocks that start within the bound stay together, and good nodes hear each other and do not overlap,
+/// for any number of rounds and whatever the faulty nodes do.
+pub fn good_nodes_stand_together()
+    ensures { Stands }
+{}
+
 /// The length of a slot is tight: a tick less, and a message is not heard.
 pub fn length_is_tight()
     ensures { LengthIsTight }
@@ -100,4 +107,11 @@ pub fn message_can_pass()
 /// What they ask of a round can be met, whatever was heard of the faulty nodes.
 pub fn round_can_be_heard()
     ensures { RoundCanBeHeard }
+{}
+
+/// A run as it is asked for where good nodes stand together exists: over as many rounds as clocks can show,
+/// with clocks that start apart and lose time, messages that are delayed, and anything heard of the faulty
+/// nodes in their slots.
+pub fn run_can_be_given()
+    ensures { RunCanBeGiven }
 {}

@@ -1,0 +1,283 @@
+-- Runs of good nodes, made round by round from what may be chosen of them. Assumes nothing.
+use borrow.Author.Differences.{ints}
+use Rattle.std.proofs.Common.{◌≡◌, ℕ, zero, suc, ◌+◌, ◌-◌, ◌*◌, ◌<◌, ◌≤◌, min, Bool, true, ◌&&◌, cond, leb, List, get_or, ℤ, Some, None, Option, refl, ap, subst, ◌∙◌, sym, inl, inr, mul-le-mul_right, arith}
+use Rattle.std.proofs.lemmas.Bool.{cases_Bool, cases_lt}
+use Rattle.std.proofs.lemmas.Bool.Decides.{nat_tests}
+use Rattle.midpoint.specs.Setting.{clock_limit}
+use Rattle.clock.specs.Config.{bound_of}
+use Rattle.clock.specs.Deviation.{deviation_of}
+use Rattle.clock.specs.Rounds.{Moment, GoodNode}
+use Rattle.clock.specs.Setting.{readings, settled, next_round_of}
+use Rattle.clock.proofs.Heard.{as_heard, heard_of}
+use Rattle.schedule.specs.Config.{timing_of}
+use Rattle.schedule.specs.Listening.{whole_in}
+use Rattle.schedule.specs.Messages.{FromSlot}
+use Rattle.schedule.specs.Runs.{Run, WholeFor, Lawful, Choice, RunGiven, RunCanBeGiven}
+use Rattle.schedule.specs.Slots.{Timing, slot_of, send_time_of, round_end_of}
+use Rattle.schedule.specs.declared.limits.Schedule.{Schedule}
+use Rattle.schedule.proofs.Passing.{ahead_by, settles_no_farther, rises, in_round, behind_round}
+
+-- A clock that has lost some ticks since a moment, at a later common time,
+below_limit : (time : ℕ) → min time (clock_limit - 1) < clock_limit
+below_limit time = grind arith
+
+abbrev later : Moment → ℕ → ℕ → Moment
+later m loss x = record {
+  common = x;
+  clock = record {
+    shown = min (m.clock.shown + (x - m.common) - loss) (clock_limit - 1);
+    round = m.clock.round;
+    below = below_limit (m.clock.shown + (x - m.common) - loss);
+  };
+}
+
+-- and when it shows a time.
+abbrev comes_to : Moment → ℕ → ℕ → ℕ
+comes_to m loss time = m.common + (time + loss - m.clock.shown)
+
+shows : (m : Moment) (loss time : ℕ) → m.clock.shown ≤ time → time < clock_limit → (later m loss (comes_to m loss time)).clock.shown ≡ time
+shows m loss time le h = omega arith
+
+-- it has not lost more, and gained nothing
+abbrev keeps_up : Moment → ℕ → Moment → Bool
+keeps_up m loss a =
+    leb (a.clock.shown + m.common) (m.clock.shown + a.common) && leb (m.clock.shown + a.common) (a.clock.shown + m.common + loss)
+
+kept_up : (m : Moment) (loss : ℕ) (a : Moment) → keeps_up m loss a ≡ true →
+    (a.clock.shown + m.common ≤ m.clock.shown + a.common) × (m.clock.shown + a.common ≤ a.clock.shown + m.common + loss)
+kept_up m loss a is = (grind (arith, nat_tests), grind (arith, nat_tests))
+
+runs_on : (m : Moment) (loss x time : ℕ) → m.common ≤ x → x ≤ comes_to m loss time → m.clock.shown ≤ time → time < clock_limit →
+    keeps_up m loss (later m loss x) ≡ true
+runs_on m loss x time low high le h = grind (arith, nat_tests)
+
+module _ (s : Schedule) (good : ℕ → Bool) (rounds : ℕ) (first : ℕ → Moment) (losses : ℕ → ℕ → ℕ) (delays lengths : ℕ → ℕ → ℕ → ℕ)
+    (lies : ℕ → ℕ → ℕ → Option ℤ) where
+  abbrev t : Timing
+  t = timing_of s
+
+  abbrev n : ℕ
+  n = s.cluster.nodes
+
+  abbrev due : ℕ → ℕ → ℕ
+  due k q = send_time_of t (slot_of t k q)
+
+  -- what happens in round k, from the moments at which it begins
+  module _ (start : ℕ → Moment) (k : ℕ) where
+    abbrev at : ℕ → ℕ → Moment
+    at p x = later (start p) (losses k p) x
+
+    abbrev sending : ℕ → ℕ
+    sending q = comes_to (start q) (losses k q) (due k q)
+
+    abbrev beginning : ℕ → ℕ → ℕ
+    beginning p q = sending q + delays k p q
+
+    abbrev ending : ℕ → Moment
+    ending p = at p (comes_to (start p) (losses k p) (round_end_of t k))
+
+    -- a good node is heard where its message is whole in its slot
+    abbrev hears : ℕ → ℕ → Option ℤ
+    hears p q =
+        let began = (at p (beginning p q)).clock.shown in
+        let over = (at p (beginning p q + lengths k p q)).clock.shown in
+        cond (good q) (cond (whole_in t (slot_of t k q) q began over) (Some (deviation_of (due k q) began)) None) (lies k p q)
+
+    abbrev all_heard : ℕ → List (Option ℤ)
+    all_heard p = as_heard n (hears p)
+
+    abbrev middle : ℕ → ℕ
+    middle p = settled s.cluster.faults (ending p).clock.shown (readings n p (ending p).clock.shown (all_heard p))
+
+    abbrev next : ℕ → Moment
+    next p = record {
+      common = (ending p).common;
+      clock = record { shown = min (middle p) (clock_limit - 1); round = next_round_of (start p).clock.round; below = below_limit (middle p) };
+    }
+
+  starts : ℕ → ℕ → Moment
+  starts zero = first
+  starts (suc k) = next (starts k) k
+
+  -- the last round up to a number that has begun for a node at a common time
+  round_at : ℕ → ℕ → ℕ → ℕ
+  round_at zero p x = 0
+  round_at (suc k) p x = cond (leb (starts (suc k) p).common x) (suc k) (round_at k p x)
+
+  -- the clock then, where the round is that of an earlier time
+  abbrev clock_at : ℕ → ℕ → ℕ → Moment
+  clock_at p earlier x = let k = round_at rounds p earlier in at (starts k) k p x
+
+  run : Run
+  run = record {
+    of_round = λ k p m. keeps_up (starts k p) (losses k p) m;
+    starts = starts;
+    sends = λ k p. at (starts k) k p (sending (starts k) k p);
+    ends = λ k p. ending (starts k) k p;
+    begins = λ k p q. let x = beginning (starts k) k p q in clock_at p x x;
+    over = λ k p q. let x = beginning (starts k) k p q + lengths k p q in clock_at p (x - 1) x;
+    heard = λ k. all_heard (starts k) k;
+  }
+
+  starts_rise : (k p : ℕ) → (starts k p).common ≤ (starts (suc k) p).common
+  unfolding starts
+  starts_rise k p = omega arith
+
+  in_round_at : (m k p x : ℕ) → k ≤ m → (starts k p).common ≤ x → x < (starts (suc k) p).common → round_at m p x ≡ k
+  unfolding round_at
+  in_round_at zero k p x h low high = omega arith
+  in_round_at (suc m) k p x h low high =
+      elim (cases_lt k (suc m)) [
+        | inl less ↦
+            let rise = rises (λ i. (starts i p).common) (suc m) (λ i l. starts_rise i p) (suc k) (suc m) less (omega arith) in
+            let ih = in_round_at m k p x (omega arith) low high in
+            grind (arith, nat_tests)
+        | inr same ↦ let e : k ≡ suc m = omega arith in let l : (starts (suc m) p).common ≤ x = rw e at low in grind (arith, nat_tests)
+      ]
+
+  module _ (choice : Choice s good rounds first losses delays lengths lies) where
+    -- what is due in a round is below the limit, and lies in it
+    due_below : (k p : ℕ) → k ≤ rounds → GoodNode s.cluster good p → due k p < clock_limit
+    due_below k p h g =
+        let turn : k * n ≤ rounds * n = mul-le-mul_right n h in
+        let before : slot_of t k p * s.length ≤ slot_of t rounds p * s.length = mul-le-mul_right s.length (omega arith) in
+        omega (arith, choice.room p g)
+
+    ends_below : (k p : ℕ) → k < rounds → GoodNode s.cluster good p → round_end_of t k + s.pause < clock_limit
+    ends_below k p h g = omega (arith, behind_round s k p, due_below (suc k) p h g)
+
+    due_in : (k p : ℕ) → GoodNode s.cluster good p → due k p ≤ round_end_of t k
+    due_in k p g = omega (arith, in_round s k p g.0, s.behind)
+
+    -- what is heard is of its slot
+    from_slots : (start : ℕ → Moment) (k p q : ℕ) → q < n → FromSlot t (slot_of t k q) (get_or (all_heard start k p) q None)
+    from_slots start k p q h =
+        let e = heard_of n s.cluster.most (hears start k p) q h in
+        let began = (at start k p (beginning start k p q)).clock.shown in
+        let over = (at start k p (beginning start k p q + lengths k p q)).clock.shown in
+        elim (cases_Bool (good q)) [
+          | inl g ↦
+              elim (cases_Bool (whole_in t (slot_of t k q) q began over)) [
+                | inl w ↦ rw (e, g, w) (began, grind (arith, nat_tests), refl)
+                | inr w ↦ rw (e, g, w) tt
+              ]
+          | inr b ↦ rw (e, b) (choice.from_slots k p q)
+        ]
+
+    -- where a round begins before its message is due, it ends when it should, and the next one begins in time
+    ends_right : (k p : ℕ) → k < rounds → GoodNode s.cluster good p → (starts k p).clock.shown ≤ due k p →
+        (ending (starts k) k p).clock.shown ≡ round_end_of t k
+    ends_right k p h g le =
+        shows (starts k p) (losses k p) (round_end_of t k) (omega (arith, due_in k p g)) (omega (arith, ends_below k p h g))
+
+    sets_le : (k p : ℕ) → k < rounds → GoodNode s.cluster good p → (starts k p).clock.shown ≤ due k p →
+        middle (starts k) k p ≤ round_end_of t k + s.pause
+    sets_le k p h g le =
+        let e = ends_right k p h g le in
+        omega (
+          arith,
+          settles_no_farther s k (ending (starts k) k p).clock.shown p (all_heard (starts k) k p) (omega (arith, ends_below k p h g))
+              (from_slots (starts k) k p),
+        )
+
+    early : (k p : ℕ) → k ≤ rounds → GoodNode s.cluster good p → (starts k p).clock.shown ≤ due k p
+    unfolding starts
+    early zero p h g = omega (arith, choice.early p g)
+    early (suc k) p h g = omega (arith, behind_round s k p, sets_le k p h g (early k p (omega arith) g))
+
+    -- the clock keeps up until the round ends
+    in_its_round : (k p x : ℕ) → k < rounds → GoodNode s.cluster good p → (starts k p).common ≤ x → x ≤ (run.ends k p).common →
+        run.of_round k p (at (starts k) k p x) ≡ true
+    unfolding run
+    in_its_round k p x h g low high =
+        runs_on (starts k p) (losses k p) x (round_end_of t k) low high (omega (arith, early k p (omega arith) g, due_in k p g))
+        (omega (arith, ends_below k p h g))
+
+    ends_later : (k p q : ℕ) → (run.begins k p q).common < (run.over k p q).common
+    unfolding run
+    ends_later k p q = omega (arith, (choice.lasting k p q).0)
+
+    -- a message that falls into a round of the receiver is timed by its clock in that round
+    module _ (k j p q : ℕ) (h : k < rounds) (g : GoodNode s.cluster good p) (low : (starts k p).common ≤ (run.begins j p q).common)
+        (high : (run.over j p q).common ≤ (run.ends k p).common) where
+      timed : (run.begins j p q ≡ at (starts k) k p (run.begins j p q).common) × (run.over j p q ≡ at (starts k) k p (run.over j p q).common)
+      unfolding run starts
+      timed =
+          let x = beginning (starts j) j p q in
+          let y = x + lengths j p q in
+          let later = ends_later j p q in
+          let e = in_round_at rounds k p x (omega arith) low (omega arith) in
+          let f = in_round_at rounds k p (y - 1) (omega arith) (omega arith) (omega arith) in
+          (ap (λ i. at (starts i) i p x) e, ap (λ i. at (starts i) i p y) f)
+
+      in_round_then : (run.of_round k p (run.begins j p q) ≡ true) × (run.of_round k p (run.over j p q) ≡ true)
+      in_round_then =
+          let (begun, over) = timed in
+          let later = ends_later j p q in (
+            subst (λ a. run.of_round k p a ≡ true) (sym begun) (in_its_round k p (run.begins j p q).common h g low (omega arith)),
+            subst (λ a. run.of_round k p a ≡ true) (sym over) (in_its_round k p (run.over j p q).common h g (omega arith) high),
+          )
+
+    -- and heard, where it is whole in its slot
+    is_heard : (k p q : ℕ) → k < rounds → GoodNode s.cluster good p → GoodNode s.cluster good q → WholeFor s run k k p q →
+        get_or (run.heard k p) q None ≡ Some (deviation_of (due k q) (run.begins k p q).clock.shown)
+    unfolding run
+    is_heard k p q h gp gq w =
+        let x = beginning (starts k) k p q in
+        let (begun, over) = timed k k p q h gp w.begun_in w.over_in in
+        let first_seen = ap (λ a. a.clock.shown) begun in
+        let last_seen = ap (λ a. a.clock.shown) over in
+        let whole : whole_in t (slot_of t k q) q (at (starts k) k p x).clock.shown (at (starts k) k p (x + lengths k p q)).clock.shown ≡ true =
+        subst (λ a. whole_in t (slot_of t k q) q (at (starts k) k p x).clock.shown a ≡ true) last_seen
+        (subst (λ a. whole_in t (slot_of t k q) q a (run.over k p q).clock.shown ≡ true) first_seen w.whole) in
+        let g = gq.1 in
+        heard_of n s.cluster.most (hears (starts k) k p) q gq.0
+        ∙ rw (g, whole) (ap (λ a. Some (deviation_of (due k q) a)) (sym first_seen))
+
+    lawful : Lawful s good rounds run
+    unfolding run starts
+    lawful = record {
+      drifts = λ k p a b h g ia ib.
+          let (gains, loses) = kept_up (starts k p) (losses k p) a ia in
+          let (gains_other, loses_other) = kept_up (starts k p) (losses k p) b ib in
+          let few = choice.steady k p in
+          omega (arith, ints);
+      starting = λ k p h g. grind (arith, nat_tests);
+      sending = λ k p h g.
+          let le = early k p h g in
+          let l = due_below k p h g in (
+            runs_on (starts k p) (losses k p) (sending (starts k) k p) (due k p) (omega arith) (omega arith) le l,
+            shows (starts k p) (losses k p) (due k p) le l,
+          );
+      ending = λ k p h g.
+          (in_its_round k p (ending (starts k) k p).common h g (omega arith) (omega arith), ends_right k p h g (early k p (omega arith) g));
+      setting = λ k p h g.
+          (refl, record { its_shown = omega (arith, sets_le k p h g (early k p (omega arith) g), ends_below k p h g); its_round = refl });
+      carried = λ k p q h gp gq d.
+          let (wire, jitter) = choice.on_time k p q in
+          let (some, most) = choice.lasting k p q in
+          (record { leaves = omega arith; arrives = omega arith; lasts = omega arith }, omega arith, omega arith);
+      falls_in = λ k j p q h u gp gq d low high. in_round_then k j p q h gp low high;
+      hears = λ k p q h gp gq d w alone. is_heard k p q h gp gq w;
+      from_slots = λ k p q h g l. from_slots (starts k) k p q l;
+    }
+
+    given : RunGiven s good rounds first losses delays lengths lies
+    unfolding run starts
+    given = record {
+      run = run;
+      lawful = lawful;
+      started = record {
+        near = choice.near;
+        listens = λ p q gp gq d. omega (arith, ahead_by (first q) (first p) (bound_of s.cluster) (choice.near q p gq gp), choice.early p gp);
+      };
+      first_start = λ p. refl;
+      lost = λ k p h g.
+          let le = early k p h g in let e = shows (starts k p) (losses k p) (due k p) le (due_below k p h g) in omega (arith, ints);
+      delayed = λ k p q. refl;
+      lasted = λ k p q. refl;
+      lied = λ k p q h b. heard_of n s.cluster.most (hears (starts k) k p) q h ∙ rw b;
+    }
+
+pub run_can_be_given_lem : RunCanBeGiven
+run_can_be_given_lem s good rounds first losses delays lengths lies choice = given s good rounds first losses delays lengths lies choice
