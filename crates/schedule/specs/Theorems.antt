@@ -1,6 +1,7 @@
 -- What is proved of slots and of listening in them. Each statement is demanded by the contract of a function of src/theorems.rt. Assumes nothing.
-use Rattle.std.specs.Prelude.{◌≡◌, ℕ, ◌+◌, ◌-◌, ◌<◌, ◌≤◌, Bool, true, List, ◌∷◌, ◌++◌, ℤ, pos, ◌+ℤ◌, Some, Option, ◌≢◌}
+use Rattle.std.specs.Prelude.{◌≡◌, ℕ, ◌+◌, ◌-◌, ◌<◌, ◌≤◌, Bool, true, false, List, ◌∷◌, ◌++◌, ℤ, pos, ◌+ℤ◌, Some, Option}
 use Rattle.std.specs.List.{AllByRecursion}
+use Rattle.std.specs.Option.{option_map}
 use Rattle.clock.specs.Config.{error_of, bound_of, width_of}
 use Rattle.clock.specs.Deviation.{deviation_of}
 use Rattle.clock.specs.Rounds.{Moment, ahead, lead, Within, GoodNode, FewBad, Apart, Round}
@@ -9,8 +10,8 @@ use Rattle.clock.specs.declared.limits.Clock.{Clock}
 use Rattle.clock.specs.declared.limits.Cluster.{Cluster}
 use Rattle.schedule.specs.Config.{timing_of}
 use Rattle.schedule.specs.Heard.{answer_of}
-use Rattle.schedule.specs.Listening.{whole_in, as_heard, Opened, Tells, Answers}
-use Rattle.schedule.specs.Messages.{Instant, at, instant, AheadBy, SameRound, Sends, Carried, Course, HeardRound}
+use Rattle.schedule.specs.Listening.{whole_in, came_whole, as_heard, Opened, Tells, Answers}
+use Rattle.schedule.specs.Messages.{Instant, at, instant, AheadBy, SameRound, Sends, Carried, Course, FromSlot, HeardRound}
 use Rattle.schedule.specs.Slots.{Timing, owner_of, round_of, slot_of, slot_start, send_time_of, slot_end_of, round_end_of}
 use Rattle.schedule.specs.declared.limits.Schedule.{Schedule}
 use Rattle.schedule.specs.declared.listening.Arrival.{Arrival}
@@ -31,6 +32,12 @@ SlotsFollow = (s : Schedule) → Follow (timing_of s)
 abbrev pub HearsTheOnlyOne : {M : Type 0} → Listener M → Type 0
 HearsTheOnlyOne l = Answers l (answer_of l.whole)
 
+-- And whatever it was told of, what it answers began in its slot: this is what a round asks of what is heard of a faulty node.
+abbrev pub HearsFromItsSlot : {M : Type 0} → Listener M → Type 0
+HearsFromItsSlot {M} l =
+    (opened : Listener M) (time : ℕ) (arrivals : List (Arrival M)) → Opened l.schedule l.slot time opened → Tells opened arrivals l →
+    FromSlot (timing_of l.schedule) l.slot (option_map (λ received. received.deviation) (answer_of l.whole))
+
 -- Within the width, what a node sends in its slot is whole in that slot where it arrives. The sender is no farther ahead than the width as its
 -- message begins to arrive, and no farther behind as it has ended.
 abbrev pub HearsWhole : Type 0
@@ -39,12 +46,12 @@ HearsWhole =
     AheadBy (width_of s.cluster) sent began → AheadBy (width_of s.cluster) ended sent →
     whole_in (timing_of s) slot (owner_of (timing_of s) slot) began.shown ended.shown ≡ true
 
--- And it is what a listener for that slot answers, with its deviation, where it is all that came on that wire: whatever came on the others, and in
--- whatever order, as long as nothing ended behind it that the listener was told of before.
-pub record OnItsWire {M : Type 0} (s : Schedule) (slot time : ℕ) (earlier : List (Arrival M)) (a : Arrival M) (later : List (Arrival M)) : Type 0 where
+-- And it is what a listener for that slot answers, with its deviation, where nothing else came whole in the slot on that wire: whatever came on the
+-- others, or too early or too late, and in whatever order, as long as nothing ended behind it that the listener was told of before.
+pub record OnlyWhole {M : Type 0} (s : Schedule) (slot time : ℕ) (earlier : List (Arrival M)) (a : Arrival M) (later : List (Arrival M)) : Type 0 where
   pub own_wire : a.wire ≡ owner_of (timing_of s) slot
-  pub other_wires_earlier : AllByRecursion (λ x. x.wire ≢ owner_of (timing_of s) slot) earlier
-  pub other_wires_later : AllByRecursion (λ x. x.wire ≢ owner_of (timing_of s) slot) later
+  pub none_earlier : AllByRecursion (λ x. came_whole s slot x ≡ false) earlier
+  pub none_later : AllByRecursion (λ x. came_whole s slot x ≡ false) later
   pub in_order : AllByRecursion (λ x. x.ended ≤ a.ended) earlier
   pub in_time : time ≤ a.ended
   pub forward : a.began ≤ a.ended
@@ -52,7 +59,7 @@ pub record OnItsWire {M : Type 0} (s : Schedule) (slot time : ℕ) (earlier : Li
 abbrev pub HearsTheMessage : {M : Type 0} → Listener M → Type 0
 HearsTheMessage {M} l =
     (opened : Listener M) (time : ℕ) (earlier later : List (Arrival M)) (a : Arrival M) (sent : Instant) (begins ends : ℕ) →
-    Opened l.schedule l.slot time opened → Tells opened (earlier ++ a ∷ later) l → OnItsWire l.schedule l.slot time earlier a later →
+    Opened l.schedule l.slot time opened → Tells opened (earlier ++ a ∷ later) l → OnlyWhole l.schedule l.slot time earlier a later →
     Sends (timing_of l.schedule) l.slot sent → Carried (timing_of l.schedule) sent (at begins a.began) (at ends a.ended) →
     AheadBy (width_of l.schedule.cluster) sent (at begins a.began) → AheadBy (width_of l.schedule.cluster) (at ends a.ended) sent →
     answer_of l.whole ≡ Some (as_heard (timing_of l.schedule) l.slot a)

@@ -1,7 +1,7 @@
 //! The theorems of this crate. Each function's contract is one statement of `specs/Theorems.antt`,
 //! `specs/Runs.antt`, `specs/Tight.antt` or `specs/Possible.antt`, so that the crate is not proved without
 //! it; what the function does is nothing.
-ghost use Rattle.schedule.specs.Theorems.{SlotsFollow, HearsTheOnlyOne, HearsWhole, HearsTheMessage, HearsGoodNodes, ReadsRight, ReadsNoFarther, MakesARound, SetsBefore, NothingOverlaps, Heard, NeverOver, SetInTime};
+ghost use Rattle.schedule.specs.Theorems.{SlotsFollow, HearsTheOnlyOne, HearsFromItsSlot, HearsWhole, HearsTheMessage, HearsGoodNodes, ReadsRight, ReadsNoFarther, MakesARound, SetsBefore, NothingOverlaps, Heard, NeverOver, SetInTime};
 ghost use Rattle.schedule.specs.Runs.{Stands, RunCanBeGiven};
 ghost use Rattle.schedule.specs.Tight.{LengthIsTight, ShortLengthFails, ShortPauseFails};
 ghost use Rattle.schedule.specs.Possible.{CourseCanBeRun, MessageCanPass, RoundCanBeHeard};
@@ -18,12 +18,17 @@ pub fn only_message_is_heard<M: Copy>(listener: Listener<M>)
     ensures { HearsTheOnlyOne listener }
 {}
 
+/// Whatever a listener was told of, what it answers began in its slot.
+pub fn what_is_heard_is_of_its_slot<M: Copy>(listener: Listener<M>)
+    ensures { HearsFromItsSlot listener }
+{}
+
 /// Within the width, what is sent in a slot is whole in that slot where it arrives.
 pub fn messages_are_heard_whole()
     ensures { HearsWhole }
 {}
 
-/// A listener answers the message of its slot's node, if nothing else came on that node's wire.
+/// A listener answers the message of its slot's node, if nothing else of that node came whole in the slot.
 pub fn messages_are_answered<M: Copy>(listener: Listener<M>)
     ensures { HearsTheMessage listener }
 {}
