@@ -15,7 +15,7 @@ use Rattle.clock.proofs.Rounds.{not_turned_away, stays_between}
 use Rattle.schedule.specs.Config.{timing_of}
 use Rattle.schedule.specs.Messages.{Instant, instant, AheadBy, Sends, Course, FromSlot}
 use Rattle.schedule.specs.Slots.{Timing, owner_of, round_of, slot_of, slot_start, slot_end_of, round_end_of}
-use Rattle.schedule.specs.Theorems.{HearsWhole, HearsGoodNodes, ReadsRight, MakesARound, SetsBefore, NothingOverlaps, SetInTime}
+use Rattle.schedule.specs.Theorems.{HearsWhole, HearsGoodNodes, ReadsRight, MakesARound, SetsBefore, NothingOverlaps, SetInTimeWithLeads}
 use Rattle.schedule.specs.declared.limits.Schedule.{Schedule}
 
 -- a slot ends a length behind its start
@@ -128,14 +128,14 @@ starts_behind t round slot h =
     mul-le-mul_right t.length k
 
 pub sets_before : SetsBefore
-sets_before s good heard before after round slot p q few course apart gp gq ends later sends =
-    let far = not_far_ahead s good heard before after p q few course apart gp gq in
+sets_before s good heard before after round slot p q few turn apart gp gq ends later sends =
+    let far = not_far_ahead s good heard before after p q few turn apart gp gq in
     let start = starts_behind (timing_of s) round slot later in
     omega (arith, ints)
 
-pub set_in_time : SetInTime
-set_in_time s good heard before after p q slot at setting few course apart gp gq sends sets =
-    let far = not_far_ahead s good heard before after p q few course apart gp gq in
+pub set_in_time : SetInTimeWithLeads
+set_in_time s good heard before after p q slot at setting few turn apart gp gq sends sets =
+    let far = not_far_ahead s good heard before after p q few turn apart gp gq in
     omega (arith, ints)
 
 -- a later slot starts when a slot has ended, or later

@@ -4,7 +4,7 @@ use Rattle.midpoint.specs.Refusals.{Row, refused_if}
 use Rattle.midpoint.specs.declared.refusal.Code.{Code}
 use Rattle.clock.specs.Config.{error_of, width_of}
 use Rattle.clock.specs.declared.limits.Cluster.{Cluster}
-use Rattle.schedule.specs.Slots.{Timing}
+use Rattle.schedule.specs.Slots.{Timing, longest}
 use Rattle.schedule.specs.declared.limits.Schedule.{Schedule}
 use Rattle.schedule.specs.declared.config.Unfit.{Unfit}
 use Rattle.schedule.specs.declared.config.Unfit.TheVariants.{PauseTooShort, LengthTooShort, LengthTooLong}
@@ -14,7 +14,7 @@ abbrev pub unfit : Cluster → ℕ → ℕ → ℕ → ℕ → List (Row Unfit)
 unfit c length pause message wire =
     refused_if (nat_lt pause (width_of c + error_of c + c.drift)) PauseTooShort
     ∷ refused_if (nat_lt length (pause + wire + width_of c + message)) LengthTooShort
-    ∷ refused_if (nat_lt 1000000000 length) LengthTooLong
+    ∷ refused_if (nat_lt longest length) LengthTooLong
     ∷ []
 
 -- number and place of each refusal

@@ -1,6 +1,10 @@
 -- Slots, which count from 0 over all rounds: whose they are, and when by a clock they begin and end. Assumes nothing: these are definitions.
 use Rattle.std.specs.Prelude.{ℕ, ◌+◌, ◌*◌, ◌/◌, ◌%◌}
 
+-- the longest slot
+abbrev pub longest : ℕ
+longest = 1000000000
+
 -- how many slots a round has, one for each node; how long a slot is, and the pause at its beginning; and the longest that a message lasts and is on
 -- its way
 pub record Timing : Type 0 where

@@ -118,21 +118,21 @@ NothingOverlaps =
 abbrev pub LeadsApart : Cluster → (ℕ → Bool) → ℕ → (ℕ → ℕ) → Type 0
 LeadsApart c good d leads = (p q : ℕ) → GoodNode c good p → GoodNode c good q → leads p ≤ leads q + d
 
-abbrev pub Heard : Type 0
-Heard =
+abbrev pub HeardWithLeads : Type 0
+HeardWithLeads =
     (s : Schedule) (good : ℕ → Bool) (leads : ℕ → ℕ) (p q slot at delay : ℕ) → LeadsApart s.cluster good (width_of s.cluster) leads →
     GoodNode s.cluster good p → GoodNode s.cluster good q → delay ≤ s.wire → at + leads p ≡ send_time_of (timing_of s) slot →
     (slot_start (timing_of s) slot ≤ at + delay + leads q) × (at + delay + s.message + leads q ≤ slot_end_of (timing_of s) slot)
 
-abbrev pub NeverOver : Type 0
-NeverOver =
+abbrev pub NeverOverWithLeads : Type 0
+NeverOverWithLeads =
     (s : Schedule) (good : ℕ → Bool) (leads : ℕ → ℕ) (p q slot later at then : ℕ) → LeadsApart s.cluster good (width_of s.cluster) leads →
     GoodNode s.cluster good p → GoodNode s.cluster good q → slot < later → at + leads p ≡ send_time_of (timing_of s) slot →
     then + leads q ≡ send_time_of (timing_of s) later → at + s.message + s.wire ≤ then
 
--- and where it is what it was as a round ended, up to the setting, and what it became from then on
-abbrev pub SetInTime : Type 0
-SetInTime =
+-- The same of settings: a clock keeps the lead that it has in `before` up to its setting, and then that in `after`.
+abbrev pub SetInTimeWithLeads : Type 0
+SetInTimeWithLeads =
     (s : Schedule) (good : ℕ → Bool) (heard : ℕ → List (Option ℤ)) (before after : ℕ → Moment) (p q slot at setting : ℕ) → FewBad s.cluster good →
     Round s.cluster good heard before after → Apart s.cluster good (width_of s.cluster) before → GoodNode s.cluster good p →
     GoodNode s.cluster good q → pos at +ℤ lead (after p) ≡ pos (send_time_of (timing_of s) slot) →

@@ -41,7 +41,7 @@ impl From<Unfit> for Code {
 
 impl Schedule {
     /// Slots of these times for a cluster, or the first reason why they do not do. No sum wraps.
-    // Four times, and no struct of them: the one that holds them is what this makes.
+    // Four numbers in a row: the struct that has a name for each is what is made here.
     pub fn new(
         cluster: Cluster,
         length: u64,

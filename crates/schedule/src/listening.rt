@@ -14,7 +14,7 @@ use clock::deviation;
 use midpoint::Code;
 
 /// A message that has arrived: on which node's wire, and when by the own clock it began and had ended.
-#[derive(Clone, Copy)]
+#[derive(Clone, Copy, PartialEq, Eq, Debug)]
 pub struct Arrival<M> {
     pub wire: usize,
     pub began: u64,
@@ -54,7 +54,7 @@ impl From<Refusal> for Code {
 
 /// A node that listens in one slot: the last time that it has seen, and what has arrived whole in the slot
 /// from its node.
-#[derive(Clone, Copy)]
+#[derive(Clone, Copy, PartialEq, Eq, Debug)]
 pub struct Listener<M> {
     schedule: Schedule,
     slot: u64,
@@ -63,14 +63,14 @@ pub struct Listener<M> {
 }
 
 /// A listener that was told of an arrival, and whether it took it.
-#[derive(Clone, Copy)]
+#[derive(Clone, Copy, PartialEq, Eq, Debug)]
 pub struct Told<M> {
     pub listener: Listener<M>,
     pub answer: Result<(), Refusal>,
 }
 
 impl<M: Copy> Listener<M> {
-    /// A listener for a slot, which begins to listen at a time and has heard nothing yet.
+    /// A listener for a slot, which has heard nothing yet: this time is the last that it has seen.
     pub fn new(schedule: Schedule, slot: u64, time: u64) -> Listener<M>
         ensures { Opened schedule slot time result }
     {
@@ -100,8 +100,8 @@ impl<M: Copy> Listener<M> {
         Told { listener, answer }
     }
 
-    /// The slot is over: the one message that arrived whole in it from the slot's node; nothing if there was
-    /// none, or more than one.
+    /// The slot is over: the one message that has come whole in it from the slot's node; nothing if there is
+    /// none, or more than one. What that is of all arrivals, `theorems::only_message_is_heard` says.
     pub fn heard(self) -> Option<Received<M>>
         ensures { result ≡ answer_of self.whole }
     {
@@ -161,8 +161,8 @@ impl<M: Copy> Listener<M> {
 }
 
 impl Schedule {
-    /// What is heard of a slot, given all that arrived while it lasted, in the order in which it ended: what
-    /// a listener answers that begins at a time and is told of each. What it refuses is passed over.
+    /// What is heard of a slot, given all that arrived, in the order in which it ended: what a listener answers
+    /// that has last seen a time and is then told of each. What it refuses is passed over.
     pub fn hear<M: Copy>(
         &self,
         slot: u64,

@@ -50,13 +50,17 @@ fn pause_and_length(rt: HostRuntime) -> Result<(), Fail> {
                 [1_500_000_000, 2_000_000_000, 0, 0],
                 Some(Unfit::LengthTooShort),
             ),
-            // sums that would wrap to a small number
-            ([1000, 137, 0, LARGEST], Some(Unfit::LengthTooShort)),
-            ([1000, 137, LARGEST, 0], Some(Unfit::LengthTooShort)),
+            // a sum that is the largest number, and sums that would wrap to 0 or to a small one
             (
                 [1000, 137, LARGEST - 1000, 751],
                 Some(Unfit::LengthTooShort),
             ),
+            (
+                [1000, 137, LARGEST - 1000, 752],
+                Some(Unfit::LengthTooShort),
+            ),
+            ([1000, 137, 0, LARGEST], Some(Unfit::LengthTooShort)),
+            ([1000, 137, LARGEST, 0], Some(Unfit::LengthTooShort)),
             (
                 [LARGEST, LARGEST, LARGEST, LARGEST],
                 Some(Unfit::LengthTooShort),
@@ -248,7 +252,7 @@ fn ends_of_the_width(rt: HostRuntime) -> Result<(), Fail> {
         (9, on(2, 4138, 4338, 6), one(112, 6)),
         // a tick farther apart the first ends behind its slot
         (8, on(1, 3914, 4114, 5), None),
-        // by the pause farther ahead the second begins before its slot
+        // ahead by the pause the second begins as its slot starts, and a tick farther ahead before it
         (9, on(2, 4113, 4313, 6), one(137, 6)),
         (9, on(2, 4112, 4312, 6), None),
     ] {
@@ -270,6 +274,8 @@ fn several_messages(rt: HostRuntime) -> Result<(), Fail> {
             (&[first, second], None),
             (&[first, second, third], None),
             (&[first, first], None),
+            // at the two ends of the slot
+            (&[on(1, 3656, 3656, 5), on(1, 4113, 4113, 6)], None),
             // one outside and one inside
             (&[early, second], one(-7, 6)),
             (&[second, late], one(-7, 6)),
@@ -312,7 +318,7 @@ fn arrivals_refused(rt: HostRuntime) -> Result<(), Fail> {
     ] {
         let again = listener.tell(arrival);
         assert_eq!(rt; again.answer, Err(why));
-        assert_eq!(rt; again.listener.heard(), listener.heard());
+        assert_eq!(rt; again.listener, listener);
     }
     Ok(())
 }
@@ -330,6 +336,7 @@ fn goes_on_after_a_refusal(rt: HostRuntime) -> Result<(), Fail> {
             (&[back, first], one(93, 5)),
             (&[first, back], one(93, 5)),
             (&[on(0, 3700, 3751, 6), first], None),
+            (&[on(0, 3700, 3751, 6), on(0, 3600, 3700, 6), first], None),
             (&[on(0, 3700, 3750, 6), first], one(93, 5)),
         ],
     )

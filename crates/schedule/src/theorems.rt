@@ -1,7 +1,7 @@
 //! The theorems of this crate. Each function's contract is one statement of `specs/Theorems.antt`,
 //! `specs/Runs.antt`, `specs/Tight.antt` or `specs/Possible.antt`, so that the crate is not proved without
 //! it; what the function does is nothing.
-ghost use Rattle.schedule.specs.Theorems.{SlotsFollow, HearsTheOnlyOne, HearsFromItsSlot, HearsWhole, HearsTheMessage, HearsGoodNodes, ReadsRight, ReadsNoFarther, MakesARound, SetsBefore, NothingOverlaps, Heard, NeverOver, SetInTime};
+ghost use Rattle.schedule.specs.Theorems.{SlotsFollow, HearsTheOnlyOne, HearsFromItsSlot, HearsWhole, HearsTheMessage, HearsGoodNodes, ReadsRight, ReadsNoFarther, MakesARound, SetsBefore, NothingOverlaps, HeardWithLeads, NeverOverWithLeads, SetInTimeWithLeads};
 ghost use Rattle.schedule.specs.Runs.{Stands, RunCanBeGiven};
 ghost use Rattle.schedule.specs.Tight.{LengthIsTight, ShortLengthFails, ShortPauseFails};
 ghost use Rattle.schedule.specs.Possible.{CourseCanBeRun, MessageCanPass, RoundCanBeHeard};
@@ -65,17 +65,17 @@ pub fn nothing_overlaps()
 
 /// Where good clocks keep their leads, what a good node sends in its slot is heard whole in it.
 pub fn heard_with_leads()
-    ensures { Heard }
+    ensures { HeardWithLeads }
 {}
 
 /// Where good clocks keep their leads, what a good node sends is over before one sends in a later slot.
 pub fn never_over_with_leads()
-    ensures { NeverOver }
+    ensures { NeverOverWithLeads }
 {}
 
 /// By the leads before and after the setting, what a good node sends finds no clock still to be set.
 pub fn set_in_time_with_leads()
-    ensures { SetInTime }
+    ensures { SetInTimeWithLeads }
 {}
 
 /// Good clocks that start within the bound stay together, and good nodes hear each other and do not overlap,
