@@ -60,8 +60,9 @@ abbrev pub FromSlot : Timing → ℕ → Option ℤ → Type 0
 FromSlot t slot None = Unit {0}
 FromSlot t slot (Some deviation) = (began : ℕ) × (slot_start t slot ≤ began) × (deviation ≡ deviation_of (send_time_of t slot) began)
 
--- A round of good nodes up to its end, which is for each when its clock is at `ends`. Each heard each other one's message: sent when its clock
--- showed the time for it, no longer on its way than the jitter, and begun here when its slot had started. Of a faulty node each heard anything, or nothing.
+-- A round of good nodes up to its end, which is for each when its clock is at `ends`, a pause or more below the limit. Each heard each other one's
+-- message: sent when its clock showed the time for it, no longer on its way than the jitter, and begun here when its slot had started. Of a faulty node
+-- each heard nothing, or something that began when its slot had started, whatever it was.
 pub record HeardRound (s : Schedule) (good : ℕ → Bool) (round : ℕ) (heard : ℕ → List (Option ℤ)) (ends : ℕ → Moment) : Type 0 where
   pub sent : ℕ → Moment
   pub began : ℕ → ℕ → Moment

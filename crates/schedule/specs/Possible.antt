@@ -28,7 +28,7 @@ abbrev pub CourseCanBeRun : Type 0
 CourseCanBeRun =
     (s : Schedule) (good : ℕ → Bool) (rounds : ℕ) (leads : ℕ → ℕ → ℕ) (most : ℕ) → Leads s good leads most → Coursed s good rounds leads most
 
--- For any slot and any message, as long on its way and as long as may be, there are clocks anywhere within the width, the sender's, and the
+-- For any slot and any message, as long on its way and as long as may be, there are clocks that are as far apart as is asked, the sender's, and the
 -- receiver's as it begins to arrive and as it has ended, ahead of the sender's by so much less the width.
 pub record Passed (s : Schedule) (slot delay lasting first last : ℕ) : Type 0 where
   pub sent : Instant

@@ -27,7 +27,7 @@ pub record Follow (t : Timing) : Type 0 where
 abbrev pub SlotsFollow : Type 0
 SlotsFollow = (s : Schedule) → Follow (timing_of s)
 
--- However many arrivals a listener was told of, it answers the one that came whole in the slot from its node, and nothing where there was none or
+-- However many arrivals a listener was told of, of those that it took it answers the one that came whole in the slot from its node, and nothing where there was none or
 -- more than one.
 abbrev pub HearsTheOnlyOne : {M : Type 0} → Listener M → Type 0
 HearsTheOnlyOne l = Answers l (answer_of l.whole)
@@ -38,8 +38,8 @@ HearsFromItsSlot {M} l =
     (opened : Listener M) (time : ℕ) (arrivals : List (Arrival M)) → Opened l.schedule l.slot time opened → Tells opened arrivals l →
     FromSlot (timing_of l.schedule) l.slot (option_map (λ received. received.deviation) (answer_of l.whole))
 
--- Within the width, what a node sends in its slot is whole in that slot where it arrives. The sender is no farther ahead than the width as its
--- message begins to arrive, and no farther behind as it has ended.
+-- Within the width, what a node sends in its slot is whole in that slot where it arrives. As it sends, the sender is no
+-- farther ahead than the width of the receiver when the message begins to arrive, and no farther behind it when the message has ended.
 abbrev pub HearsWhole : Type 0
 HearsWhole =
     (s : Schedule) (slot : ℕ) (sent began ended : Instant) → Sends (timing_of s) slot sent → Carried (timing_of s) sent began ended →
@@ -130,7 +130,8 @@ NeverOverWithLeads =
     GoodNode s.cluster good p → GoodNode s.cluster good q → slot < later → at + leads p ≡ send_time_of (timing_of s) slot →
     then + leads q ≡ send_time_of (timing_of s) later → at + s.message + s.wire ≤ then
 
--- The same of settings: a clock keeps the lead that it has in `before` up to its setting, and then that in `after`.
+-- The same of settings: a clock keeps the lead that it has in `before` up to its setting, and then that in `after`. At
+-- `setting` the receiver's clock shows the slot's start, where that is a round's first slot: it is set then.
 abbrev pub SetInTimeWithLeads : Type 0
 SetInTimeWithLeads =
     (s : Schedule) (good : ℕ → Bool) (heard : ℕ → List (Option ℤ)) (before after : ℕ → Moment) (p q slot at setting : ℕ) → FewBad s.cluster good →

@@ -8,7 +8,8 @@ use clock::Cluster;
 
 /// When the nodes of a cluster send and listen: how long a slot is, how long the pause at its beginning,
 /// and the longest that a message lasts and is on its way. Whoever makes one has to show its limits, so
-/// the fields can be read by all.
+/// the fields can be read by all. That a message is on its way for some ticks makes its reading wrong by as many:
+/// the cluster's jitter has to cover that, and is not compared with the wire's time here.
 #[derive(Clone, Copy, PartialEq, Eq, Debug)]
 pub struct Schedule {
     pub cluster: Cluster,

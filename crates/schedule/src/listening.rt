@@ -70,7 +70,8 @@ pub struct Told<M> {
 }
 
 impl<M: Copy> Listener<M> {
-    /// A listener for a slot, which has heard nothing yet: this time is the last that it has seen.
+    /// A listener for a slot, which has heard nothing yet: this time is the last that it has seen. Made when
+    /// the slot starts, or before, it misses nothing of it.
     pub fn new(schedule: Schedule, slot: u64, time: u64) -> Listener<M>
         ensures { Opened schedule slot time result }
     {

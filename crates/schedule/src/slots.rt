@@ -23,7 +23,7 @@ impl Schedule {
         slot / self.cluster.nodes()
     }
 
-    /// The slot of a node in a round.
+    /// The slot of a node in a round; of a node past the cluster's it is a slot of a later round.
     pub fn slot(&self, round: u64, node: usize) -> u64
         ensures { result ≡ min (slot_of (timing_of self.now) round node) largest }
     {

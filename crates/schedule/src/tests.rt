@@ -21,6 +21,19 @@ fn taken(rt: &impl Abort, cluster: Cluster, cases: &[([u64; 4], Option<Unfit>)])
     }
 }
 
+// A schedule has the times that it was made of, here each longer than it has to be.
+#[test]
+fn times_are_kept(rt: HostRuntime) -> Result<(), Fail> {
+    let cluster = Cluster::new(7, 2, 5, 10)?;
+    let schedule = Schedule::new(cluster, 500, 140, 201, 9)?;
+    assert_eq!(rt; schedule.cluster, cluster);
+    assert_eq!(rt; schedule.length, 500);
+    assert_eq!(rt; schedule.pause, 140);
+    assert_eq!(rt; schedule.message, 201);
+    assert_eq!(rt; schedule.wire, 9);
+    Ok(())
+}
+
 // With 7 nodes, 2 faults, a drift of 5 and a jitter of 10 the width is 112 and the error 20.
 #[test]
 fn pause_and_length(rt: HostRuntime) -> Result<(), Fail> {
@@ -337,9 +350,50 @@ fn goes_on_after_a_refusal(rt: HostRuntime) -> Result<(), Fail> {
             (&[first, back], one(93, 5)),
             (&[on(0, 3700, 3751, 6), first], None),
             (&[on(0, 3700, 3751, 6), on(0, 3600, 3700, 6), first], None),
+            (&[on(0, 3700, 3751, 6), on(0, 3700, 3740, 6), first], None),
             (&[on(0, 3700, 3750, 6), first], one(93, 5)),
         ],
     )
+}
+
+// What ends behind the slot is taken too, and what ended before it is then refused, also where nothing can be
+// heard any more.
+#[test]
+fn seen_all_along(rt: HostRuntime) -> Result<(), Fail> {
+    let start = Listener::new(seven()?, 8, 3656);
+    let late = start.tell(on(1, 4100, 4114, 5));
+    assert_eq!(rt; late.answer, Ok(()));
+    let again = late.listener.tell(on(1, 3700, 4113, 5));
+    assert_eq!(rt; again.answer, Err(Refusal::Earlier));
+    let twice = start
+        .tell(on(1, 3700, 3750, 5))
+        .listener
+        .tell(on(1, 3800, 3850, 6));
+    let third = twice.listener.tell(on(1, 3900, 3950, 7));
+    assert_eq!(rt; third.answer, Ok(()));
+    let back = third.listener.tell(on(1, 3900, 3949, 8));
+    assert_eq!(rt; back.answer, Err(Refusal::Earlier));
+    assert_eq!(rt; back.listener.heard(), None);
+    Ok(())
+}
+
+// The last time seen before the first arrival.
+#[test]
+fn hears_from_a_time(rt: HostRuntime) -> Result<(), Fail> {
+    let schedule = seven()?;
+    let first = [on(1, 3700, 3750, 5)];
+    assert_eq!(rt; schedule.hear(8, 3750, &first), one(93, 5));
+    assert_eq!(rt; schedule.hear(8, 3751, &first), None);
+    Ok(())
+}
+
+// More arrivals than there are nodes: 32 on another wire, then the one of the slot's node.
+#[test]
+fn many_arrivals(rt: HostRuntime) -> Result<(), Fail> {
+    let mut arrivals = [on(0, 3700, 3750, 5); 33];
+    arrivals[32] = on(1, 3793, 3993, 6);
+    assert_eq!(rt; seven()?.hear(8, 0, &arrivals), one(0, 6));
+    Ok(())
 }
 
 // No clock shows a time of these slots, and nothing wraps into them.
@@ -356,5 +410,12 @@ fn last_slots(rt: HostRuntime) -> Result<(), Fail> {
     ] {
         assert_eq!(rt; schedule.hear(slot, 0, &[arrival]), expected);
     }
+    // a slot that starts 43 ticks before the end, so that its message is due behind it
+    let longer = Schedule::new(Cluster::new(7, 2, 5, 10)?, 458, 137, 200, 8)?;
+    let slot = 40_276_733_785_392_034;
+    assert_eq!(rt;
+        longer.hear(slot, 0, &[on(0, LARGEST, LARGEST, 5)]),
+        one(94, 5)
+    );
     Ok(())
 }

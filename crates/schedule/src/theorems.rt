@@ -13,7 +13,7 @@ pub fn slots_follow()
     ensures { SlotsFollow }
 {}
 
-/// However many arrivals a listener was told of, it answers the only one that is heard, or nothing.
+/// However many arrivals a listener was told of, it answers the only one that it took and that came whole.
 pub fn only_message_is_heard<M: Copy>(listener: Listener<M>)
     ensures { HearsTheOnlyOne listener }
 {}
@@ -28,7 +28,8 @@ pub fn messages_are_heard_whole()
     ensures { HearsWhole }
 {}
 
-/// A listener answers the message of its slot's node, if nothing else of that node came whole in the slot.
+/// A listener answers the message of its slot's node, if nothing else of that node came whole in the slot and
+/// nothing that it was told of before ended later.
 pub fn messages_are_answered<M: Copy>(listener: Listener<M>)
     ensures { HearsTheMessage listener }
 {}
