@@ -221,12 +221,14 @@ module _ {M : Type 0} (s : Schedule) (good : ℕ → Bool) (rounds : ℕ) (first
           (ap (λ i. at (starts i) i p x) e, ap (λ i. at (starts i) i p y) f)
 
       in_round_then : (run.of_round k p (run.begins j p q) ≡ true) × (run.of_round k p (run.over j p q) ≡ true)
+          × ((run.begins j p q).clock.shown ≤ (run.over j p q).clock.shown)
+      unfolding run
       in_round_then =
           let (begun, over) = timed in
-          let later = ends_later j p q in (
-            subst (λ a. run.of_round k p a ≡ true) (sym begun) (in_its_round k p (run.begins j p q).common h g low (omega arith)),
-            subst (λ a. run.of_round k p a ≡ true) (sym over) (in_its_round k p (run.over j p q).common h g (omega arith) high),
-          )
+          let later = ends_later j p q in
+          let first = subst (λ a. run.of_round k p a ≡ true) (sym begun) (in_its_round k p (run.begins j p q).common h g low (omega arith)) in
+          let last = subst (λ a. run.of_round k p a ≡ true) (sym over) (in_its_round k p (run.over j p q).common h g (omega arith) high) in
+          (first, last, goes_forward (starts k p) (losses k p) (run.begins j p q) (run.over j p q) first last (omega arith))
 
     -- and all that comes whole, where it is whole in its slot
     comes_alone : (k p q : ℕ) → k < rounds → GoodNode s.cluster good p → GoodNode s.cluster good q → WholeFor s run k k p q →
@@ -267,7 +269,7 @@ module _ {M : Type 0} (s : Schedule) (good : ℕ → Bool) (rounds : ℕ) (first
           (record { leaves = omega arith; arrives = omega arith; lasts = omega arith }, omega arith, omega arith);
       falls_in = λ k j p q h u gp gq d low high. in_round_then k j p q h gp low high;
       listened = λ k p q h g l. heard_of n s.cluster.most (hears (starts k) k p) q l;
-      wires = λ k p q h gp gq d w alone. comes_alone k p q h gp gq w;
+      wires = λ k p q h gp gq d w alone forward. comes_alone k p q h gp gq w;
     }
 
     given : RunGiven s good rounds first losses delays lengths said lies

@@ -92,11 +92,12 @@ module _ {M : Type 0} (s : Schedule) (good : ℕ → Bool) (rounds : ℕ) (r : R
       let long : slot (suc k) p * 1 ≤ slot (suc k) p * s.length = mul-le-mul_left (slot (suc k) p) (omega (arith, s.behind)) in
       omega (arith, turn, long, (law.sending (suc k) p h g).1, (r.sends (suc k) p).clock.below, (law.setting k p h g).1.its_round, law.counts k p h g)
 
-  -- What is known of a round as it begins: the clocks are within the bound, no message of it was missed, and those of earlier ones are over.
+  -- What is known of a round as it begins: the clocks are within the bound, each counts it right, no message of it was missed, and those of earlier
+  -- ones are over.
   record Ready (k : ℕ) : Type 0 where
     near : Apart s.cluster good (bound_of s.cluster) (r.starts k)
-    listens : (p q : ℕ) → Good p → Good q → (p ≡ q → ⊥) → (r.starts k p).common ≤ (r.begins k p q).common
     counted : (p : ℕ) → Good p → (r.starts k p).clock.round ≡ k
+    listens : (p q : ℕ) → Good p → Good q → (p ≡ q → ⊥) → (r.starts k p).common ≤ (r.begins k p q).common
     past : (j p q : ℕ) → j < k → Good p → Good q → (p ≡ q → ⊥) → (r.over j p q).common ≤ (r.starts k p).common
 
   module _ (k : ℕ) (ready : Ready k) where
@@ -127,6 +128,7 @@ module _ {M : Type 0} (s : Schedule) (good : ℕ → Bool) (rounds : ℕ) (r : R
             omega (arith, way.arrives, way.lasts, over_in_round s k q (instant (r.sends k q)) (instant (r.ends k p)) gq.0 due shows near)
 
         falls_in : (r.of_round k p (r.begins k p q) ≡ true) × (r.of_round k p (r.over k p q) ≡ true)
+            × ((r.begins k p q).clock.shown ≤ (r.over k p q).clock.shown)
         falls_in = law.falls_in k k p q h le gp gq d (ready.listens p q gp gq d) lasts
 
         whole : whole_in t (slot k q) q (r.begins k p q).clock.shown (r.over k p q).clock.shown ≡ true
@@ -152,7 +154,7 @@ module _ {M : Type 0} (s : Schedule) (good : ℕ → Bool) (rounds : ℕ) (r : R
         later_out : (j : ℕ) → k < j → j ≤ rounds → WholeFor s r k j p q → ⊥
         later_out j after u w =
             let (way, _, _) = law.carried j p q u gp gq d in
-            let (_, over) = law.falls_in k j p q h u gp gq d w.begun_in w.over_in in
+            let (_, over, _) = law.falls_in k j p q h u gp gq d w.begun_in w.over_in in
             let (ended, shows) = law.ending k p h gp in
             let (other, shows_other) = law.ending k q h gq in
             let inside : (r.over j p q).clock.shown ≤ slot_end_of t (slot k q) = grind (arith, nat_tests, w.whole) in
@@ -187,7 +189,7 @@ module _ {M : Type 0} (s : Schedule) (good : ℕ → Bool) (rounds : ℕ) (r : R
         answer : answered s r k p q ≡ Some (as_heard t (slot k q) (arrival_of r k p q))
         answer =
             ap (λ xs. heard_as t (slot k q) (only xs))
-            (law.wires k p q h gp gq d (record { begun_in = ready.listens p q gp gq d; over_in = lasts; whole = whole }) alone)
+            (law.wires k p q h gp gq d (record { begun_in = ready.listens p q gp gq d; over_in = lasts; whole = whole }) alone falls_in.2)
 
         heard : get_or (r.heard k p) q None ≡ Some (deviation_of (send_time_of t (slot k q)) (r.begins k p q).clock.shown)
         heard = law.listened k p q h gp gq.0 ∙ ap (option_map (λ received. received.deviation)) answer
@@ -247,8 +249,8 @@ module _ {M : Type 0} (s : Schedule) (good : ℕ → Bool) (rounds : ℕ) (r : R
         near = λ p q gp gq.
             let closer = set_closer s.cluster good (r.heard k) (r.ends k) next few one_round (width_of s.cluster) ends_apart p q gp gq in
             omega (arith, ints, sets_to p gp, sets_to q gq, (law.setting k p h gp).0, (law.setting k q h gq).0);
-        listens = λ p q gp gq d. omega (arith, set_before p q gp gq, (law.setting k p h gp).0, (law.carried (suc k) p q h gp gq d).0.leaves);
         counted = λ p g. counts_on k p h g (ready.counted p g);
+        listens = λ p q gp gq d. omega (arith, set_before p q gp gq, (law.setting k p h gp).0, (law.carried (suc k) p q h gp gq d).0.leaves);
         past = λ j p q less gp gq d.
             elim (cases_lt j k) [
               | inl before ↦
@@ -263,7 +265,12 @@ module _ {M : Type 0} (s : Schedule) (good : ℕ → Bool) (rounds : ℕ) (r : R
       }
 
   all_ready : Started s good r → (k : ℕ) → k ≤ rounds → Ready k
-  all_ready start zero h = record { near = start.near; listens = start.listens; counted = start.first; past = λ j p q less gp gq d. absurd (omega arith) }
+  all_ready start zero h = record {
+    near = start.near;
+    counted = start.first;
+    listens = start.listens;
+    past = λ j p q less gp gq d. absurd (omega arith);
+  }
   all_ready start (suc k) h = ready_next k (all_ready start k (omega arith)) h
 
   module _ (start : Started s good r) where

@@ -28,7 +28,7 @@ pub record Run (M : Type 0) : Type 0 where
   pub over : ℕ → ℕ → ℕ → Moment
   -- round, node: what its message holds, the same for all
   pub said : ℕ → ℕ → M
-  -- round, receiver, sender: when the receiver's listener for the sender's slot begins, and all that it is then told of, on any wire and in this order
+  -- round, receiver, sender: when the receiver's listener for the sender's slot begins, and all that it is told of, on any wire and in this order
   pub opened : ℕ → ℕ → ℕ → ℕ
   pub arrived : ℕ → ℕ → ℕ → List (Arrival M)
   -- round, node: the deviations that it heard, as its setting is handed them
@@ -73,21 +73,24 @@ pub record Lawful {M : Type 0} (s : Schedule) (good : ℕ → Bool) (rounds : �
       (k p q : ℕ) → k ≤ rounds → GoodNode s.cluster good p → GoodNode s.cluster good q → (p ≢ q) →
       Carried (timing_of s) (instant (r.sends k q)) (instant (r.begins k p q)) (instant (r.over k p q))
       × ((r.begins k p q).common ≤ (r.sends k q).common + s.cluster.jitter) × ((r.begins k p q).common < (r.over k p q).common)
-  -- Where it begins and ends in a round of the receiver, of whatever number, the receiver's clock is then in that round. So one that begins at the
-  -- very tick of a setting is timed by the clock as it was set, and one that has ended at it by the clock before it was set.
+  -- Where it begins and ends in a round of the receiver, of whatever number, the receiver's clock is then in that round, and does not run backwards
+  -- meanwhile. So one that begins at the very tick of a setting is timed by the clock as it was set, and one that has ended at it by the clock before
+  -- it was set.
   pub falls_in :
       (k j p q : ℕ) → k < rounds → j ≤ rounds → GoodNode s.cluster good p → GoodNode s.cluster good q → (p ≢ q) →
       (r.starts k p).common ≤ (r.begins j p q).common → (r.over j p q).common ≤ (r.ends k p).common →
       (r.of_round k p (r.begins j p q) ≡ true) × (r.of_round k p (r.over j p q) ≡ true)
+      × ((r.begins j p q).clock.shown ≤ (r.over j p q).clock.shown)
   -- what is heard of a node, good or not, is what the listener for its slot answers
   pub listened :
       (k p q : ℕ) → k < rounds → GoodNode s.cluster good p → q < s.cluster.nodes →
       slice_index_or (r.heard k p) q None ≡ option_map (λ received. received.deviation) (answered s r k p q)
-  -- On the wire from a good node to a good one nothing comes but that node's messages. So where its message of the round is whole in its slot, and no
-  -- other of its messages in all these rounds is, that is all that comes whole there, of all that the listener is told of.
+  -- On the wire from a good node to a good one nothing comes but that node's messages, and the listener is told of each, and of all else, in the
+  -- order in which they end. So where the message of the round is whole in its slot, and no other of its sender's messages in all these rounds is,
+  -- that is all that comes whole there, of all that the listener is told of.
   pub wires :
       (k p q : ℕ) → k < rounds → GoodNode s.cluster good p → GoodNode s.cluster good q → (p ≢ q) → WholeFor s r k k p q →
-      ((j : ℕ) → j ≤ rounds → (j ≢ k) → WholeFor s r k j p q → ⊥) →
+      ((j : ℕ) → j ≤ rounds → (j ≢ k) → WholeFor s r k j p q → ⊥) → (r.begins k p q).clock.shown ≤ (r.over k p q).clock.shown →
       whole_ones s (slot_of (timing_of s) k q) (r.opened k p q) (r.arrived k p q) ≡ arrival_of r k p q ∷ []
 
 -- How it starts: good clocks are within the bound and in round 0, and each is in that round when the first message of another good node begins to
@@ -107,8 +110,8 @@ pub record Standing {M : Type 0} (s : Schedule) (good : ℕ → Bool) (rounds : 
       r.of_round k q b ≡ true → lead a ≤ℤ (lead b +ℤ pos (width_of s.cluster))
   -- each good node counts the rounds right
   pub counted : (k p : ℕ) → k ≤ rounds → GoodNode s.cluster good p → (r.starts k p).clock.round ≡ k
-  -- A message finds the receiver in the round that it is of, is whole in its slot, and alone there. So it is what the receiver's listener answers, and
-  -- its deviation is what the setting is handed.
+  -- A message finds the receiver in the round that it is of, is whole in its slot, and alone there. So it is what the receiver's listener answers,
+  -- and its deviation is what the setting is handed.
   pub listens :
       (k p q : ℕ) → k ≤ rounds → GoodNode s.cluster good p → GoodNode s.cluster good q → (p ≢ q) →
       (r.starts k p).common ≤ (r.begins k p q).common

@@ -115,9 +115,9 @@ pub fn round_can_be_heard()
     ensures { RoundCanBeHeard }
 {}
 
-/// A run as it is asked for where good nodes stand together exists: over as many rounds as clocks can show,
-/// with clocks that start apart and lose time, messages that are delayed and say anything, and listeners for
-/// the slots of faulty nodes that are told of anything.
+/// There is a run of good nodes as `good_nodes_stand_together` asks for it: over as many rounds as clocks can
+/// show, with clocks that start apart and lose time, messages that are delayed and hold anything, and
+/// listeners for the slots of faulty nodes that are told of anything.
 pub fn run_can_be_given<M: Copy>()
     ensures { RunCanBeGiven M }
 {}
