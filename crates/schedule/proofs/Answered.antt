@@ -6,7 +6,7 @@ use Rattle.std.proofs.lemmas.List.Elements.{All-head, filter_passes}
 use Rattle.std.specs.List.{All, AllByRecursion}
 use Rattle.std.specs.Option.{option_map}
 use Rattle.schedule.specs.Config.{timing_of}
-use Rattle.schedule.specs.Listening.{timely, came_whole, taken, whole_ones, heard_as, only}
+use Rattle.schedule.specs.Listening.{timely, came_whole, taken, whole_ones, heard_as, heard_in, only}
 use Rattle.schedule.specs.Messages.{at, FromSlot}
 use Rattle.schedule.specs.Theorems.{HearsTheMessage, HearsFromItsSlot}
 use Rattle.schedule.specs.declared.limits.Schedule.{Schedule}
@@ -24,7 +24,7 @@ module _ {M : Type 0} (s : Schedule) (slot : ℕ) where
         | inr refused ↦ rw refused (none_whole last xs others)
       ]
 
-  one_whole : (last : ℕ) (earlier : List (Arrival M)) (a : Arrival M) (later : List (Arrival M)) → came_whole s slot a ≡ true → a.began ≤ a.ended →
+  pub one_whole : (last : ℕ) (earlier : List (Arrival M)) (a : Arrival M) (later : List (Arrival M)) → came_whole s slot a ≡ true → a.began ≤ a.ended →
       last ≤ a.ended → AllByRecursion (λ x. came_whole s slot x ≡ false) earlier → AllByRecursion (λ x. x.ended ≤ a.ended) earlier →
       AllByRecursion (λ x. came_whole s slot x ≡ false) later → whole_ones s slot last (earlier ++ a ∷ later) ≡ a ∷ []
   one_whole last [] a later is forward in_time others order behind =
@@ -44,6 +44,11 @@ module _ {M : Type 0} (s : Schedule) (slot : ℕ) where
   from_slot (a ∷ []) all = let whole = All-head Whole a [] all in (a.began, grind (arith, nat_tests), refl)
   from_slot (a ∷ b ∷ xs) all = tt
 
+  -- whatever a listener is told of
+  pub heard_from_slot : (time : ℕ) (arrivals : List (Arrival M)) →
+      FromSlot (timing_of s) slot (option_map (λ received. received.deviation) (heard_in s slot time arrivals))
+  heard_from_slot time arrivals = from_slot (whole_ones s slot time arrivals) (filter_passes (came_whole s slot) (taken time arrivals))
+
 pub hears_the_message : {M : Type 0} (l : Listener M) → HearsTheMessage l
 hears_the_message l opened time earlier later a sent begins ends is_open told alone sends way before behind =
     let s = l.schedule in
@@ -55,6 +60,4 @@ hears_the_message l opened time earlier later a sent begins ends is_open told al
 
 pub hears_from_its_slot : {M : Type 0} (l : Listener M) → HearsFromItsSlot l
 hears_from_its_slot l opened time arrivals is_open told =
-    let s = l.schedule in
-    let e = hears_the_only_one l opened time arrivals is_open told in
-    rw e (from_slot s l.slot (whole_ones s l.slot time arrivals) (filter_passes (came_whole s l.slot) (taken time arrivals)))
+    let e = hears_the_only_one l opened time arrivals is_open told in rw e (heard_from_slot l.schedule l.slot time arrivals)

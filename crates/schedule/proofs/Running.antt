@@ -1,23 +1,25 @@
 -- Runs of good nodes, made round by round from what may be chosen of them. Assumes nothing.
 use borrow.Author.Differences.{ints}
-use Rattle.std.proofs.Common.{◌≡◌, ℕ, zero, suc, ◌+◌, ◌-◌, ◌*◌, ◌<◌, ◌≤◌, min, Bool, true, ◌&&◌, cond, leb, List, get_or, ℤ, Some, None, Option, refl, ap, subst, ◌∙◌, sym, inl, inr, mul-le-mul_right, arith}
-use Rattle.std.proofs.lemmas.Bool.{cases_Bool, cases_lt}
+use Rattle.std.proofs.Common.{◌≡◌, ℕ, zero, suc, ◌+◌, ◌-◌, ◌*◌, ◌<◌, ◌≤◌, min, Bool, true, ◌&&◌, cond, ◌==◌, leb, List, [], ◌∷◌, get_or, ℤ, None, Option, refl, ap, subst, ◌∙◌, sym, inl, inr, mul-le-mul_right, arith}
+use Rattle.std.proofs.lemmas.Bool.{cases_lt}
 use Rattle.std.proofs.lemmas.Bool.Decides.{nat_tests}
+use Rattle.std.specs.Option.{option_map}
 use Rattle.midpoint.specs.Setting.{clock_limit}
 use Rattle.clock.specs.Config.{bound_of}
-use Rattle.clock.specs.Deviation.{deviation_of}
 use Rattle.clock.specs.Rounds.{Moment, GoodNode}
 use Rattle.clock.specs.Setting.{readings, settled, next_round_of}
 use Rattle.clock.proofs.Heard.{as_heard, heard_of}
 use Rattle.schedule.specs.Config.{timing_of}
-use Rattle.schedule.specs.Listening.{whole_in}
+use Rattle.schedule.specs.Listening.{came_whole, whole_ones, heard_in}
 use Rattle.schedule.specs.Messages.{FromSlot}
-use Rattle.schedule.specs.Runs.{Run, WholeFor, Lawful, Choice, RunGiven, RunCanBeGiven}
+use Rattle.schedule.specs.Runs.{Run, arrival_of, WholeFor, Lawful, Choice, RunGiven, RunCanBeGiven}
 use Rattle.schedule.specs.Slots.{Timing, slot_of, send_time_of, round_end_of}
 use Rattle.schedule.specs.declared.limits.Schedule.{Schedule}
+use Rattle.schedule.specs.declared.listening.Arrival.{Arrival}
+use Rattle.schedule.proofs.Answered.{one_whole, heard_from_slot}
 use Rattle.schedule.proofs.Passing.{ahead_by, settles_no_farther, rises, in_round, behind_round}
 
--- A clock that has lost some ticks since a moment, at a later common time,
+-- A clock at a later common time: it stands for the ticks that it loses, and then goes on.
 below_limit : (time : ℕ) → min time (clock_limit - 1) < clock_limit
 below_limit time = grind arith
 
@@ -25,34 +27,43 @@ abbrev later : Moment → ℕ → ℕ → Moment
 later m loss x = record {
   common = x;
   clock = record {
-    shown = min (m.clock.shown + (x - m.common) - loss) (clock_limit - 1);
+    shown = min (m.clock.shown + (x - m.common - loss)) (clock_limit - 1);
     round = m.clock.round;
-    below = below_limit (m.clock.shown + (x - m.common) - loss);
+    below = below_limit (m.clock.shown + (x - m.common - loss));
   };
 }
 
--- and when it shows a time.
+-- when it shows a time
 abbrev comes_to : Moment → ℕ → ℕ → ℕ
 comes_to m loss time = m.common + (time + loss - m.clock.shown)
 
 shows : (m : Moment) (loss time : ℕ) → m.clock.shown ≤ time → time < clock_limit → (later m loss (comes_to m loss time)).clock.shown ≡ time
 shows m loss time le h = omega arith
 
--- it has not lost more, and gained nothing
+-- Its moments: it shows what it should, and has not lost more, nor gained.
 abbrev keeps_up : Moment → ℕ → Moment → Bool
 keeps_up m loss a =
-    leb (a.clock.shown + m.common) (m.clock.shown + a.common) && leb (m.clock.shown + a.common) (a.clock.shown + m.common + loss)
+    (a.clock.shown == (later m loss a.common).clock.shown)
+    && leb (a.clock.shown + m.common) (m.clock.shown + a.common)
+    && leb (m.clock.shown + a.common) (a.clock.shown + m.common + loss)
 
 kept_up : (m : Moment) (loss : ℕ) (a : Moment) → keeps_up m loss a ≡ true →
     (a.clock.shown + m.common ≤ m.clock.shown + a.common) × (m.clock.shown + a.common ≤ a.clock.shown + m.common + loss)
 kept_up m loss a is = (grind (arith, nat_tests), grind (arith, nat_tests))
 
+goes_forward : (m : Moment) (loss : ℕ) (a b : Moment) → keeps_up m loss a ≡ true → keeps_up m loss b ≡ true → a.common ≤ b.common →
+    a.clock.shown ≤ b.clock.shown
+goes_forward m loss a b ia ib le =
+    let e : a.clock.shown ≡ (later m loss a.common).clock.shown = grind (arith, nat_tests) in
+    let f : b.clock.shown ≡ (later m loss b.common).clock.shown = grind (arith, nat_tests) in
+    omega arith
+
 runs_on : (m : Moment) (loss x time : ℕ) → m.common ≤ x → x ≤ comes_to m loss time → m.clock.shown ≤ time → time < clock_limit →
     keeps_up m loss (later m loss x) ≡ true
 runs_on m loss x time low high le h = grind (arith, nat_tests)
 
-module _ (s : Schedule) (good : ℕ → Bool) (rounds : ℕ) (first : ℕ → Moment) (losses : ℕ → ℕ → ℕ) (delays lengths : ℕ → ℕ → ℕ → ℕ)
-    (lies : ℕ → ℕ → ℕ → Option ℤ) where
+module _ {M : Type 0} (s : Schedule) (good : ℕ → Bool) (rounds : ℕ) (first : ℕ → Moment) (losses : ℕ → ℕ → ℕ) (delays lengths : ℕ → ℕ → ℕ → ℕ)
+    (said : ℕ → ℕ → M) (lies : ℕ → ℕ → ℕ → List (Arrival M)) where
   abbrev t : Timing
   t = timing_of s
 
@@ -76,12 +87,18 @@ module _ (s : Schedule) (good : ℕ → Bool) (rounds : ℕ) (first : ℕ → Mo
     abbrev ending : ℕ → Moment
     ending p = at p (comes_to (start p) (losses k p) (round_end_of t k))
 
-    -- a good node is heard where its message is whole in its slot
+    -- of a good node its message arrives, if it is whole in its slot
+    abbrev seen : ℕ → Moment → Moment → Arrival M
+    seen q begun over = record { wire = q; began = begun.clock.shown; ended = over.clock.shown; message = said k q }
+
+    abbrev message : ℕ → ℕ → Arrival M
+    message p q = seen q (at p (beginning p q)) (at p (beginning p q + lengths k p q))
+
+    abbrev arrivals : ℕ → ℕ → List (Arrival M)
+    arrivals p q = cond (good q) (cond (came_whole s (slot_of t k q) (message p q)) (message p q ∷ []) []) (lies k p q)
+
     abbrev hears : ℕ → ℕ → Option ℤ
-    hears p q =
-        let began = (at p (beginning p q)).clock.shown in
-        let over = (at p (beginning p q + lengths k p q)).clock.shown in
-        cond (good q) (cond (whole_in t (slot_of t k q) q began over) (Some (deviation_of (due k q) began)) None) (lies k p q)
+    hears p q = option_map (λ received. received.deviation) (heard_in s (slot_of t k q) 0 (arrivals p q))
 
     abbrev all_heard : ℕ → List (Option ℤ)
     all_heard p = as_heard n (hears p)
@@ -108,7 +125,7 @@ module _ (s : Schedule) (good : ℕ → Bool) (rounds : ℕ) (first : ℕ → Mo
   abbrev clock_at : ℕ → ℕ → ℕ → Moment
   clock_at p earlier x = let k = round_at rounds p earlier in at (starts k) k p x
 
-  run : Run
+  run : Run M
   run = record {
     of_round = λ k p m. keeps_up (starts k p) (losses k p) m;
     starts = starts;
@@ -116,6 +133,9 @@ module _ (s : Schedule) (good : ℕ → Bool) (rounds : ℕ) (first : ℕ → Mo
     ends = λ k p. ending (starts k) k p;
     begins = λ k p q. let x = beginning (starts k) k p q in clock_at p x x;
     over = λ k p q. let x = beginning (starts k) k p q + lengths k p q in clock_at p (x - 1) x;
+    said = said;
+    opened = λ k p q. 0;
+    arrived = λ k. arrivals (starts k) k;
     heard = λ k. all_heard (starts k) k;
   }
 
@@ -135,7 +155,7 @@ module _ (s : Schedule) (good : ℕ → Bool) (rounds : ℕ) (first : ℕ → Mo
         | inr same ↦ let e : k ≡ suc m = omega arith in let l : (starts (suc m) p).common ≤ x = rw e at low in grind (arith, nat_tests)
       ]
 
-  module _ (choice : Choice s good rounds first losses delays lengths lies) where
+  module _ (choice : Choice s good rounds first losses delays lengths) where
     -- what is due in a round is below the limit, and lies in it
     due_below : (k p : ℕ) → k ≤ rounds → GoodNode s.cluster good p → due k p < clock_limit
     due_below k p h g =
@@ -152,17 +172,7 @@ module _ (s : Schedule) (good : ℕ → Bool) (rounds : ℕ) (first : ℕ → Mo
     -- what is heard is of its slot
     from_slots : (start : ℕ → Moment) (k p q : ℕ) → q < n → FromSlot t (slot_of t k q) (get_or (all_heard start k p) q None)
     from_slots start k p q h =
-        let e = heard_of n s.cluster.most (hears start k p) q h in
-        let began = (at start k p (beginning start k p q)).clock.shown in
-        let over = (at start k p (beginning start k p q + lengths k p q)).clock.shown in
-        elim (cases_Bool (good q)) [
-          | inl g ↦
-              elim (cases_Bool (whole_in t (slot_of t k q) q began over)) [
-                | inl w ↦ rw (e, g, w) (began, grind (arith, nat_tests), refl)
-                | inr w ↦ rw (e, g, w) tt
-              ]
-          | inr b ↦ rw (e, b) (choice.from_slots k p q)
-        ]
+        let e = heard_of n s.cluster.most (hears start k p) q h in rw e (heard_from_slot s (slot_of t k q) 0 (arrivals start k p q))
 
     -- where a round begins before its message is due, it ends when it should, and the next one begins in time
     ends_right : (k p : ℕ) → k < rounds → GoodNode s.cluster good p → (starts k p).clock.shown ≤ due k p →
@@ -211,28 +221,27 @@ module _ (s : Schedule) (good : ℕ → Bool) (rounds : ℕ) (first : ℕ → Mo
           (ap (λ i. at (starts i) i p x) e, ap (λ i. at (starts i) i p y) f)
 
       in_round_then : (run.of_round k p (run.begins j p q) ≡ true) × (run.of_round k p (run.over j p q) ≡ true)
+          × ((run.begins j p q).clock.shown ≤ (run.over j p q).clock.shown)
+      unfolding run
       in_round_then =
           let (begun, over) = timed in
-          let later = ends_later j p q in (
-            subst (λ a. run.of_round k p a ≡ true) (sym begun) (in_its_round k p (run.begins j p q).common h g low (omega arith)),
-            subst (λ a. run.of_round k p a ≡ true) (sym over) (in_its_round k p (run.over j p q).common h g (omega arith) high),
-          )
+          let later = ends_later j p q in
+          let first = subst (λ a. run.of_round k p a ≡ true) (sym begun) (in_its_round k p (run.begins j p q).common h g low (omega arith)) in
+          let last = subst (λ a. run.of_round k p a ≡ true) (sym over) (in_its_round k p (run.over j p q).common h g (omega arith) high) in
+          (first, last, goes_forward (starts k p) (losses k p) (run.begins j p q) (run.over j p q) first last (omega arith))
 
-    -- and heard, where it is whole in its slot
-    is_heard : (k p q : ℕ) → k < rounds → GoodNode s.cluster good p → GoodNode s.cluster good q → WholeFor s run k k p q →
-        get_or (run.heard k p) q None ≡ Some (deviation_of (due k q) (run.begins k p q).clock.shown)
+    -- and all that comes whole, where it is whole in its slot
+    comes_alone : (k p q : ℕ) → k < rounds → GoodNode s.cluster good p → GoodNode s.cluster good q → WholeFor s run k k p q →
+        whole_ones s (slot_of t k q) 0 (run.arrived k p q) ≡ arrival_of run k p q ∷ []
     unfolding run
-    is_heard k p q h gp gq w =
-        let x = beginning (starts k) k p q in
+    comes_alone k p q h gp gq w =
+        let sent = message (starts k) k p q in
         let (begun, over) = timed k k p q h gp w.begun_in w.over_in in
-        let first_seen = ap (λ a. a.clock.shown) begun in
-        let last_seen = ap (λ a. a.clock.shown) over in
-        let whole : whole_in t (slot_of t k q) q (at (starts k) k p x).clock.shown (at (starts k) k p (x + lengths k p q)).clock.shown ≡ true =
-        subst (λ a. whole_in t (slot_of t k q) q (at (starts k) k p x).clock.shown a ≡ true) last_seen
-        (subst (λ a. whole_in t (slot_of t k q) q a (run.over k p q).clock.shown ≡ true) first_seen w.whole) in
+        let same : arrival_of run k p q ≡ sent =
+        ap (λ a. seen (starts k) k q a (run.over k p q)) begun ∙ ap (seen (starts k) k q (at (starts k) k p (beginning (starts k) k p q))) over in
+        let whole : came_whole s (slot_of t k q) sent ≡ true = subst (λ a. came_whole s (slot_of t k q) a ≡ true) same w.whole in
         let g = gq.1 in
-        heard_of n s.cluster.most (hears (starts k) k p) q gq.0
-        ∙ rw (g, whole) (ap (λ a. Some (deviation_of (due k q) a)) (sym first_seen))
+        rw (g, whole) (one_whole s (slot_of t k q) 0 [] sent [] whole (omega arith) (omega arith) tt tt tt) ∙ ap (λ a. a ∷ []) (sym same)
 
     lawful : Lawful s good rounds run
     unfolding run starts
@@ -251,6 +260,7 @@ module _ (s : Schedule) (good : ℕ → Bool) (rounds : ℕ) (first : ℕ → Mo
           );
       ending = λ k p h g.
           (in_its_round k p (ending (starts k) k p).common h g (omega arith) (omega arith), ends_right k p h g (early k p (omega arith) g));
+      counts = λ k p h g. refl;
       setting = λ k p h g.
           (refl, record { its_shown = omega (arith, sets_le k p h g (early k p (omega arith) g), ends_below k p h g); its_round = refl });
       carried = λ k p q h gp gq d.
@@ -258,26 +268,29 @@ module _ (s : Schedule) (good : ℕ → Bool) (rounds : ℕ) (first : ℕ → Mo
           let (some, most) = choice.lasting k p q in
           (record { leaves = omega arith; arrives = omega arith; lasts = omega arith }, omega arith, omega arith);
       falls_in = λ k j p q h u gp gq d low high. in_round_then k j p q h gp low high;
-      hears = λ k p q h gp gq d w alone. is_heard k p q h gp gq w;
-      from_slots = λ k p q h g l. from_slots (starts k) k p q l;
+      listened = λ k p q h g l. heard_of n s.cluster.most (hears (starts k) k p) q l;
+      wires = λ k p q h gp gq d w alone forward. comes_alone k p q h gp gq w;
     }
 
-    given : RunGiven s good rounds first losses delays lengths lies
+    given : RunGiven s good rounds first losses delays lengths said lies
     unfolding run starts
     given = record {
       run = run;
       lawful = lawful;
       started = record {
         near = choice.near;
+        first = choice.from_zero;
         listens = λ p q gp gq d. omega (arith, ahead_by (first q) (first p) (bound_of s.cluster) (choice.near q p gq gp), choice.early p gp);
       };
       first_start = λ p. refl;
       lost = λ k p h g.
           let le = early k p h g in let e = shows (starts k p) (losses k p) (due k p) le (due_below k p h g) in omega (arith, ints);
+      forward = λ k p a b. goes_forward (starts k p) (losses k p) a b;
       delayed = λ k p q. refl;
       lasted = λ k p q. refl;
-      lied = λ k p q h b. heard_of n s.cluster.most (hears (starts k) k p) q h ∙ rw b;
+      says = λ k q. refl;
+      lied = λ k p q b. rw b;
     }
 
-pub run_can_be_given_lem : RunCanBeGiven
-run_can_be_given_lem s good rounds first losses delays lengths lies choice = given s good rounds first losses delays lengths lies choice
+pub run_can_be_given_lem : {M : Type 0} → RunCanBeGiven M
+run_can_be_given_lem s good rounds first losses delays lengths said lies choice = given s good rounds first losses delays lengths said lies choice

@@ -1,24 +1,26 @@
 -- A run of good nodes, by induction on its rounds: where the clocks are within the bound as a round begins, and no message was missed, each hears each
 -- in it, so that they are as the next one begins. Assumes nothing.
 use borrow.Author.Differences.{ints}
-use Rattle.std.proofs.Common.{◌≡◌, ℕ, zero, suc, ◌+◌, ◌<◌, ◌≤◌, Bool, true, pos, ◌+ℤ◌, ◌≤ℤ◌, Some, None, get_or, sym, subst, refl, ◌∙◌, inl, inr, add-mul, arith}
+use Rattle.std.proofs.Common.{◌≡◌, ℕ, zero, suc, ◌+◌, ◌*◌, ◌<◌, ◌≤◌, Bool, true, pos, ◌+ℤ◌, ◌≤ℤ◌, Some, None, get_or, sym, subst, refl, ap, ◌∙◌, inl, inr, add-mul, mul-le-mul_left, arith}
 use Rattle.std.proofs.lemmas.Bool.{cases_lt}
 use Rattle.std.proofs.lemmas.Bool.Decides.{nat_tests}
 use Rattle.std.proofs.lemmas.Nat.{mod-mul-add, div-mul-add}
+use Rattle.std.specs.Option.{option_map}
 use Rattle.midpoint.specs.Setting.{clock_limit}
 use Rattle.clock.specs.Config.{bound_of, width_of}
 use Rattle.clock.specs.Deviation.{deviation_of}
 use Rattle.clock.specs.Rounds.{Moment, lead, GoodNode, FewBad, Apart, Round}
 use Rattle.clock.proofs.Rounds.{set_closer}
 use Rattle.schedule.specs.Config.{timing_of}
-use Rattle.schedule.specs.Listening.{whole_in}
-use Rattle.schedule.specs.Messages.{instant, AheadBy, SameRound, Course, HeardRound}
-use Rattle.schedule.specs.Runs.{Run, WholeFor, Lawful, Started, Standing, Stands}
+use Rattle.schedule.specs.Listening.{whole_in, as_heard, heard_as, only}
+use Rattle.schedule.specs.Messages.{instant, AheadBy, SameRound, Course, FromSlot, HeardRound}
+use Rattle.schedule.specs.Runs.{Run, answered, arrival_of, WholeFor, Lawful, Started, Standing, Stands}
 use Rattle.schedule.specs.Slots.{Timing, slot_of, slot_start, slot_end_of, send_time_of, round_end_of}
 use Rattle.schedule.specs.declared.limits.Schedule.{Schedule}
+use Rattle.schedule.proofs.Answered.{heard_from_slot}
 use Rattle.schedule.proofs.Passing.{hears_whole, ahead_by, makes_a_round, settles_no_farther, sets_before, rises, slot_long, starts_later, in_round, behind_round, over_in_round, nothing_overlaps_lem}
 
-module _ (s : Schedule) (good : ℕ → Bool) (rounds : ℕ) (r : Run) (few : FewBad s.cluster good) (law : Lawful s good rounds r) where
+module _ {M : Type 0} (s : Schedule) (good : ℕ → Bool) (rounds : ℕ) (r : Run M) (few : FewBad s.cluster good) (law : Lawful s good rounds r) where
   abbrev t : Timing
   t = timing_of s
 
@@ -41,10 +43,15 @@ module _ (s : Schedule) (good : ℕ → Bool) (rounds : ℕ) (r : Run) (few : Fe
   room k p h g =
       omega (arith, (law.ending k p h g).1, behind_round s k p, (law.sending (suc k) p h g).1, (r.sends (suc k) p).clock.below)
 
+  -- what is heard of any node is of its slot
+  from_slots : (k p q : ℕ) → k < rounds → Good p → q < s.cluster.nodes → FromSlot t (slot k q) (get_or (r.heard k p) q None)
+  from_slots k p q h g l =
+      let e = law.listened k p q h g l in rw e (heard_from_slot s (slot k q) (r.opened k p q) (r.arrived k p q))
+
   -- whatever was heard, no clock is set farther ahead than by the pause
   set_le : (k p : ℕ) → k < rounds → Good p → (r.starts (suc k) p).clock.shown ≤ round_end_of t k + s.pause
   set_le k p h g =
-      let high = settles_no_farther s k (r.ends k p).clock.shown p (r.heard k p) (room k p h g) (λ q l. law.from_slots k p q h g l) in
+      let high = settles_no_farther s k (r.ends k p).clock.shown p (r.heard k p) (room k p h g) (λ q l. from_slots k p q h g l) in
       omega (arith, high, (law.setting k p h g).1.its_shown, (law.ending k p h g).1)
 
   -- so a node does not send in the next round long before that begins, nor is a round over before it begins
@@ -78,13 +85,18 @@ module _ (s : Schedule) (good : ℕ → Bool) (rounds : ℕ) (r : Run) (few : Fe
       let (ended, shows) = law.ending k p h g in
       omega (arith, drifted k p (r.ends k p) (r.sends k p) (omega arith) g ended sent, in_round s k p g.0, s.behind)
 
-  sends_rise : (k j p : ℕ) → k ≤ j → j ≤ rounds → Good p → (r.sends k p).common ≤ (r.sends j p).common
-  sends_rise k j p le h g =
-      rises (λ i. (r.sends i p).common) rounds (λ i l. omega (arith, sends_end i p l g, sends_behind i p l g, behind_round s i p)) k j le h
+  -- the round that is counted stays below the limit, as the time to send in it does
+  counts_on : (k p : ℕ) → k < rounds → Good p → (r.starts k p).clock.round ≡ k → (r.starts (suc k) p).clock.round ≡ suc k
+  counts_on k p h g e =
+      let turn : suc k * 1 ≤ suc k * s.cluster.nodes = mul-le-mul_left (suc k) (omega (arith, s.cluster.enough)) in
+      let long : slot (suc k) p * 1 ≤ slot (suc k) p * s.length = mul-le-mul_left (slot (suc k) p) (omega (arith, s.behind)) in
+      omega (arith, turn, long, (law.sending (suc k) p h g).1, (r.sends (suc k) p).clock.below, (law.setting k p h g).1.its_round, law.counts k p h g)
 
-  -- What is known of a round as it begins: the clocks are within the bound, no message of it was missed, and those of earlier ones are over.
+  -- What is known of a round as it begins: the clocks are within the bound, each counts it right, no message of it was missed, and those of earlier
+  -- ones are over.
   record Ready (k : ℕ) : Type 0 where
     near : Apart s.cluster good (bound_of s.cluster) (r.starts k)
+    counted : (p : ℕ) → Good p → (r.starts k p).clock.round ≡ k
     listens : (p q : ℕ) → Good p → Good q → (p ≡ q → ⊥) → (r.starts k p).common ≤ (r.begins k p q).common
     past : (j p q : ℕ) → j < k → Good p → Good q → (p ≡ q → ⊥) → (r.over j p q).common ≤ (r.starts k p).common
 
@@ -105,18 +117,18 @@ module _ (s : Schedule) (good : ℕ → Bool) (rounds : ℕ) (r : Run) (few : Fe
       le : k ≤ rounds
       le = omega arith
 
-      over_in : (p q : ℕ) → Good p → Good q → (r.sends k q).common + s.wire + s.message ≤ (r.ends k p).common
-      over_in p q gp gq =
-          let (sent, due) = law.sending k q le gq in
-          let (ended, shows) = law.ending k p h gp in
-          over_in_round s k q (instant (r.sends k q)) (instant (r.ends k p)) gq.0 due shows (near_by p q (r.ends k p) (r.sends k q) le gp gq ended sent)
-
       -- a message between two good nodes
       module _ (p q : ℕ) (gp : Good p) (gq : Good q) (d : p ≡ q → ⊥) where
         lasts : (r.over k p q).common ≤ (r.ends k p).common
-        lasts = let (way, _, _) = law.carried k p q le gp gq d in omega (arith, way.arrives, way.lasts, over_in p q gp gq)
+        lasts =
+            let (way, _, _) = law.carried k p q le gp gq d in
+            let (sent, due) = law.sending k q le gq in
+            let (ended, shows) = law.ending k p h gp in
+            let near = near_by p q (r.ends k p) (r.sends k q) le gp gq ended sent in
+            omega (arith, way.arrives, way.lasts, over_in_round s k q (instant (r.sends k q)) (instant (r.ends k p)) gq.0 due shows near)
 
         falls_in : (r.of_round k p (r.begins k p q) ≡ true) × (r.of_round k p (r.over k p q) ≡ true)
+            × ((r.begins k p q).clock.shown ≤ (r.over k p q).clock.shown)
         falls_in = law.falls_in k k p q h le gp gq d (ready.listens p q gp gq d) lasts
 
         whole : whole_in t (slot k q) q (r.begins k p q).clock.shown (r.over k p q).clock.shown ≡ true
@@ -142,17 +154,19 @@ module _ (s : Schedule) (good : ℕ → Bool) (rounds : ℕ) (r : Run) (few : Fe
         later_out : (j : ℕ) → k < j → j ≤ rounds → WholeFor s r k j p q → ⊥
         later_out j after u w =
             let (way, _, _) = law.carried j p q u gp gq d in
-            let (_, over) = law.falls_in k j p q h u gp gq d w.begun_in w.over_in in
+            let (_, over, _) = law.falls_in k j p q h u gp gq d w.begun_in w.over_in in
             let (ended, shows) = law.ending k p h gp in
             let (other, shows_other) = law.ending k q h gq in
             let inside : (r.over j p q).clock.shown ≤ slot_end_of t (slot k q) = grind (arith, nat_tests, w.whole) in
             let turn : slot k q + 1 < slot (suc k) q = omega (arith, add-mul k 1 s.cluster.nodes, s.cluster.enough) in
+            let rise : (i : ℕ) → i < rounds → (r.sends i q).common ≤ (r.sends (suc i) q).common =
+            λ i l. omega (arith, sends_end i q l gq, sends_behind i q l gq, behind_round s i q) in
             omega (
               arith,
               drifted k p (r.ends k p) (r.over j p q) le gp ended over,
               near_by q p (r.ends k q) (r.ends k p) le gq gp other ended,
               sends_behind k q h gq,
-              sends_rise (suc k) j q after u gq,
+              rises (λ i. (r.sends i q).common) rounds rise (suc k) j after u,
               starts_later t (slot k q + 1) (slot (suc k) q) turn,
               slot_long t (slot k q + 1),
               way.leaves,
@@ -172,8 +186,13 @@ module _ (s : Schedule) (good : ℕ → Bool) (rounds : ℕ) (r : Run) (few : Fe
                   ]
             ]
 
+        answer : answered s r k p q ≡ Some (as_heard t (slot k q) (arrival_of r k p q))
+        answer =
+            ap (λ xs. heard_as t (slot k q) (only xs))
+            (law.wires k p q h gp gq d (record { begun_in = ready.listens p q gp gq d; over_in = lasts; whole = whole }) alone falls_in.2)
+
         heard : get_or (r.heard k p) q None ≡ Some (deviation_of (send_time_of t (slot k q)) (r.begins k p q).clock.shown)
-        heard = law.hears k p q h gp gq d (record { begun_in = ready.listens p q gp gq d; over_in = lasts; whole = whole }) alone
+        heard = law.listened k p q h gp gq.0 ∙ ap (option_map (λ received. received.deviation)) answer
 
       heard_round : HeardRound s good k (r.heard k) (r.ends k)
       heard_round = record {
@@ -186,7 +205,7 @@ module _ (s : Schedule) (good : ℕ → Bool) (rounds : ℕ) (r : Run) (few : Fe
         receiver_runs = λ p q gp gq d. steady k p (r.ends k p) (r.begins k p q) le gp (law.ending k p h gp).0 (falls_in p q gp gq d).0;
         in_its_slot = in_its_slot;
         hears = heard;
-        from_slots = λ p q g l. law.from_slots k p q h g l;
+        from_slots = λ p q g l. from_slots k p q h g l;
         room = λ p g. room k p h g;
       }
 
@@ -230,6 +249,7 @@ module _ (s : Schedule) (good : ℕ → Bool) (rounds : ℕ) (r : Run) (few : Fe
         near = λ p q gp gq.
             let closer = set_closer s.cluster good (r.heard k) (r.ends k) next few one_round (width_of s.cluster) ends_apart p q gp gq in
             omega (arith, ints, sets_to p gp, sets_to q gq, (law.setting k p h gp).0, (law.setting k q h gq).0);
+        counted = λ p g. counts_on k p h g (ready.counted p g);
         listens = λ p q gp gq d. omega (arith, set_before p q gp gq, (law.setting k p h gp).0, (law.carried (suc k) p q h gp gq d).0.leaves);
         past = λ j p q less gp gq d.
             elim (cases_lt j k) [
@@ -245,7 +265,12 @@ module _ (s : Schedule) (good : ℕ → Bool) (rounds : ℕ) (r : Run) (few : Fe
       }
 
   all_ready : Started s good r → (k : ℕ) → k ≤ rounds → Ready k
-  all_ready start zero h = record { near = start.near; listens = start.listens; past = λ j p q less gp gq d. absurd (omega arith) }
+  all_ready start zero h = record {
+    near = start.near;
+    counted = start.first;
+    listens = start.listens;
+    past = λ j p q less gp gq d. absurd (omega arith);
+  }
   all_ready start (suc k) h = ready_next k (all_ready start k (omega arith)) h
 
   module _ (start : Started s good r) where
@@ -268,16 +293,19 @@ module _ (s : Schedule) (good : ℕ → Bool) (rounds : ℕ) (r : Run) (few : Fe
     standing = record {
       together = λ k h. (known k h).near;
       within = λ k p q a b h. within k (known k h) p q a b h;
+      counted = λ k p h. (known k h).counted p;
       listens = λ k p q h. (known k h).listens p q;
       lasts = λ k p q h. lasts k (known k (omega arith)) h p q;
       whole = λ k p q h. whole k (known k (omega arith)) h p q;
       alone = λ k j p q h u other gp gq d. alone k (known k (omega arith)) h p q gp gq d j u other;
-      heard = λ k p q h. heard k (known k (omega arith)) h p q;
-      apart = λ k j p q hk hj gp gq order.
+      heard = λ k p q h gp gq d.
+          let ready = known k (omega arith) in (answer k ready h p q gp gq d, heard k ready h p q gp gq d);
+      reads = λ k p q h. (one_round k (known k (omega arith)) h).fair p q;
+      over_before = λ k j p q hk hj gp gq order.
           nothing_overlaps_lem s good rounds (λ i n. instant (r.sends i n)) (λ i n. instant (r.ends i n)) k j p q course hk hj gp gq order;
       set_before = λ k p q h. set_before k (known k (omega arith)) h p q;
       in_time = λ k p h g. omega (arith, set_le k p h g, behind_round s k p);
     }
 
-pub stands : Stands
+pub stands : {M : Type 0} → Stands M
 stands s good rounds r few law start = standing s good rounds r few law start

@@ -1,19 +1,22 @@
 -- A run of good nodes over any number of rounds, whatever the faulty ones do: clocks that are set, messages that pass, and what was heard of them.
 -- What holds of it, and that there are such runs, are statements that contracts of functions of src/theorems.rt demand. Assumes nothing.
-use Rattle.std.specs.Prelude.{◌≡◌, ℕ, suc, ◌+◌, ◌<◌, ◌≤◌, Bool, true, false, List, ℤ, pos, ◌+ℤ◌, ◌≤ℤ◌, Some, None, Option, ◌≢◌, slice_index_or}
+use Rattle.std.specs.Prelude.{◌≡◌, ℕ, suc, ◌+◌, ◌<◌, ◌≤◌, Bool, true, false, List, [], ◌∷◌, ℤ, pos, ◌+ℤ◌, ◌≤ℤ◌, Some, None, Option, ◌≢◌, slice_index_or}
+use Rattle.std.specs.Option.{option_map}
 use Rattle.midpoint.specs.Setting.{clock_limit}
-use Rattle.clock.specs.Config.{bound_of, width_of}
+use Rattle.clock.specs.Config.{error_of, bound_of, width_of}
 use Rattle.clock.specs.Deviation.{deviation_of}
-use Rattle.clock.specs.Rounds.{Moment, lead, GoodNode, FewBad, Apart}
+use Rattle.clock.specs.Rounds.{Moment, ahead, lead, Within, GoodNode, FewBad, Apart, read_by}
 use Rattle.clock.specs.Setting.{SetBy}
 use Rattle.schedule.specs.Config.{timing_of}
-use Rattle.schedule.specs.Listening.{whole_in}
-use Rattle.schedule.specs.Messages.{instant, Sends, Carried, FromSlot}
+use Rattle.schedule.specs.Listening.{whole_in, whole_ones, heard_in}
+use Rattle.schedule.specs.Messages.{instant, Sends, Carried}
 use Rattle.schedule.specs.Slots.{slot_of, send_time_of, round_end_of}
 use Rattle.schedule.specs.declared.limits.Schedule.{Schedule}
+use Rattle.schedule.specs.declared.listening.Arrival.{Arrival}
+use Rattle.schedule.specs.declared.listening.Received.{Received}
 
--- What happens to good nodes: each clock at moments of a common time that no node knows.
-pub record Run : Type 0 where
+-- What happens to good nodes: each clock at moments of a common time that no node knows, and what is sent and arrives. M is what messages hold.
+pub record Run (M : Type 0) : Type 0 where
   -- round, node: whether a moment is one of this node's clock in this round
   pub of_round : ℕ → ℕ → Moment → Bool
   -- round, node: the clock as the round begins, as the node starts to send in it, and as it ends
@@ -23,19 +26,31 @@ pub record Run : Type 0 where
   -- round, receiver, sender: the receiver's clock as the sender's message of the round begins to arrive, and as it has ended
   pub begins : ℕ → ℕ → ℕ → Moment
   pub over : ℕ → ℕ → ℕ → Moment
+  -- round, node: what its message holds, the same for all
+  pub said : ℕ → ℕ → M
+  -- round, receiver, sender: when the receiver's listener for the sender's slot begins, and all that it is told of, on any wire and in this order
+  pub opened : ℕ → ℕ → ℕ → ℕ
+  pub arrived : ℕ → ℕ → ℕ → List (Arrival M)
   -- round, node: the deviations that it heard, as its setting is handed them
   pub heard : ℕ → ℕ → List (Option ℤ)
 
+-- what node p's listener for node q's slot of round k answers, and q's message of that round as it arrives at p
+abbrev pub answered : {M : Type 0} → Schedule → Run M → ℕ → ℕ → ℕ → Option (Received M)
+answered s r k p q = heard_in s (slot_of (timing_of s) k q) (r.opened k p q) (r.arrived k p q)
+
+abbrev pub arrival_of : {M : Type 0} → Run M → ℕ → ℕ → ℕ → Arrival M
+arrival_of r k p q = record { wire = q; began = (r.begins k p q).clock.shown; ended = (r.over k p q).clock.shown; message = r.said k q }
+
 -- The message of node q's round j falls into node p's round k, and is whole there in q's slot by p's clock.
-pub record WholeFor (s : Schedule) (r : Run) (k j p q : ℕ) : Type 0 where
+pub record WholeFor {M : Type 0} (s : Schedule) (r : Run M) (k j p q : ℕ) : Type 0 where
   pub begun_in : (r.starts k p).common ≤ (r.begins j p q).common
   pub over_in : (r.over j p q).common ≤ (r.ends k p).common
   pub whole : whole_in (timing_of s) (slot_of (timing_of s) k q) q (r.begins j p q).clock.shown (r.over j p q).clock.shown ≡ true
 
--- What is asked of a run over so many rounds, and of the next one as far as it goes. Nothing is asked of the faulty nodes but that what is heard of
--- them comes from their slots. It is not asked that messages are heard, that they fall into the receiver's round of the same number, that no other
--- falls there, that clocks are set in time, or that readings are right.
-pub record Lawful (s : Schedule) (good : ℕ → Bool) (rounds : ℕ) (r : Run) : Type 0 where
+-- What is asked of a run over so many rounds, and of the next one as far as it goes. Nothing is asked of the faulty nodes, nor of what arrives from
+-- them. It is not asked that messages are heard, that they fall into the receiver's round of the same number, that no other falls there, that clocks
+-- are set in time, or that readings are right.
+pub record Lawful {M : Type 0} (s : Schedule) (good : ℕ → Bool) (rounds : ℕ) (r : Run M) : Type 0 where
   -- in a round a clock runs off by no more than the drift between any two moments
   pub drifts :
       (k p : ℕ) (a b : Moment) → k ≤ rounds → GoodNode s.cluster good p → r.of_round k p a ≡ true → r.of_round k p b ≡ true →
@@ -51,40 +66,52 @@ pub record Lawful (s : Schedule) (good : ℕ → Bool) (rounds : ℕ) (r : Run) 
   pub setting :
       (k p : ℕ) → k < rounds → GoodNode s.cluster good p →
       ((r.starts (suc k) p).common ≡ (r.ends k p).common) × SetBy s.cluster p (r.ends k p).clock (r.heard k p) (r.starts (suc k) p).clock
+  -- and in a round the node counts the same round
+  pub counts : (k p : ℕ) → k < rounds → GoodNode s.cluster good p → (r.ends k p).clock.round ≡ (r.starts k p).clock.round
   -- a message between good nodes sets out when it is sent, takes no longer than the wire and the jitter allow, and lasts at least a tick
   pub carried :
       (k p q : ℕ) → k ≤ rounds → GoodNode s.cluster good p → GoodNode s.cluster good q → (p ≢ q) →
       Carried (timing_of s) (instant (r.sends k q)) (instant (r.begins k p q)) (instant (r.over k p q))
       × ((r.begins k p q).common ≤ (r.sends k q).common + s.cluster.jitter) × ((r.begins k p q).common < (r.over k p q).common)
-  -- where it begins and ends in a round of the receiver, of whatever number, the receiver's clock is then in that round
+  -- Where it begins and ends in a round of the receiver, of whatever number, the receiver's clock is then in that round, and does not run backwards
+  -- meanwhile. So one that begins at the very tick of a setting is timed by the clock as it was set, and one that has ended at it by the clock before
+  -- it was set.
   pub falls_in :
       (k j p q : ℕ) → k < rounds → j ≤ rounds → GoodNode s.cluster good p → GoodNode s.cluster good q → (p ≢ q) →
       (r.starts k p).common ≤ (r.begins j p q).common → (r.over j p q).common ≤ (r.ends k p).common →
       (r.of_round k p (r.begins j p q) ≡ true) × (r.of_round k p (r.over j p q) ≡ true)
-  -- and where it is whole there in its slot, and no other of its sender's messages in all these rounds is, it is heard
-  pub hears :
-      (k p q : ℕ) → k < rounds → GoodNode s.cluster good p → GoodNode s.cluster good q → (p ≢ q) → WholeFor s r k k p q →
-      ((j : ℕ) → j ≤ rounds → (j ≢ k) → WholeFor s r k j p q → ⊥) →
-      slice_index_or (r.heard k p) q None ≡ Some (deviation_of (send_time_of (timing_of s) (slot_of (timing_of s) k q)) (r.begins k p q).clock.shown)
-  -- what is heard of any node began in its slot
-  pub from_slots :
+      × ((r.begins j p q).clock.shown ≤ (r.over j p q).clock.shown)
+  -- what is heard of a node, good or not, is what the listener for its slot answers
+  pub listened :
       (k p q : ℕ) → k < rounds → GoodNode s.cluster good p → q < s.cluster.nodes →
-      FromSlot (timing_of s) (slot_of (timing_of s) k q) (slice_index_or (r.heard k p) q None)
+      slice_index_or (r.heard k p) q None ≡ option_map (λ received. received.deviation) (answered s r k p q)
+  -- On the wire from a good node to a good one nothing comes but that node's messages, and the listener is told of each, and of all else, in the
+  -- order in which they end. So where the message of the round is whole in its slot, and no other of its sender's messages in all these rounds is,
+  -- that is all that comes whole there, of all that the listener is told of.
+  pub wires :
+      (k p q : ℕ) → k < rounds → GoodNode s.cluster good p → GoodNode s.cluster good q → (p ≢ q) → WholeFor s r k k p q →
+      ((j : ℕ) → j ≤ rounds → (j ≢ k) → WholeFor s r k j p q → ⊥) → (r.begins k p q).clock.shown ≤ (r.over k p q).clock.shown →
+      whole_ones s (slot_of (timing_of s) k q) (r.opened k p q) (r.arrived k p q) ≡ arrival_of r k p q ∷ []
 
--- How it starts: good clocks are within the bound, and each is in its first round when the first message begins to arrive.
-pub record Started (s : Schedule) (good : ℕ → Bool) (r : Run) : Type 0 where
+-- How it starts: good clocks are within the bound and in round 0, and each is in that round when the first message of another good node begins to
+-- arrive. That a node's own sending in that round is behind its start is not asked.
+pub record Started {M : Type 0} (s : Schedule) (good : ℕ → Bool) (r : Run M) : Type 0 where
   pub near : Apart s.cluster good (bound_of s.cluster) (r.starts 0)
+  pub first : (p : ℕ) → GoodNode s.cluster good p → (r.starts 0 p).clock.round ≡ 0
   pub listens :
       (p q : ℕ) → GoodNode s.cluster good p → GoodNode s.cluster good q → (p ≢ q) → (r.starts 0 p).common ≤ (r.begins 0 p q).common
 
 -- What holds then.
-pub record Standing (s : Schedule) (good : ℕ → Bool) (rounds : ℕ) (r : Run) : Type 0 where
+pub record Standing {M : Type 0} (s : Schedule) (good : ℕ → Bool) (rounds : ℕ) (r : Run M) : Type 0 where
   -- good clocks are within the bound as each round begins, and within the width in it
   pub together : (k : ℕ) → k ≤ rounds → Apart s.cluster good (bound_of s.cluster) (r.starts k)
   pub within :
       (k p q : ℕ) (a b : Moment) → k ≤ rounds → GoodNode s.cluster good p → GoodNode s.cluster good q → r.of_round k p a ≡ true →
       r.of_round k q b ≡ true → lead a ≤ℤ (lead b +ℤ pos (width_of s.cluster))
-  -- a message finds the receiver in the round that it is of, is whole in its slot, alone there, and is heard
+  -- each good node counts the rounds right
+  pub counted : (k p : ℕ) → k ≤ rounds → GoodNode s.cluster good p → (r.starts k p).clock.round ≡ k
+  -- A message finds the receiver in the round that it is of, is whole in its slot, and alone there. So it is what the receiver's listener answers,
+  -- and its deviation is what the setting is handed.
   pub listens :
       (k p q : ℕ) → k ≤ rounds → GoodNode s.cluster good p → GoodNode s.cluster good q → (p ≢ q) →
       (r.starts k p).common ≤ (r.begins k p q).common
@@ -99,9 +126,15 @@ pub record Standing (s : Schedule) (good : ℕ → Bool) (rounds : ℕ) (r : Run
       WholeFor s r k j p q → ⊥
   pub heard :
       (k p q : ℕ) → k < rounds → GoodNode s.cluster good p → GoodNode s.cluster good q → (p ≢ q) →
-      slice_index_or (r.heard k p) q None ≡ Some (deviation_of (send_time_of (timing_of s) (slot_of (timing_of s) k q)) (r.begins k p q).clock.shown)
-  -- it is over, with its time on the wire, before a good node sends in any later slot
-  pub apart :
+      let deviation = deviation_of (send_time_of (timing_of s) (slot_of (timing_of s) k q)) (r.begins k p q).clock.shown in
+      (answered s r k p q ≡ Some (record { deviation = deviation; message = r.said k q }))
+      × (slice_index_or (r.heard k p) q None ≡ Some deviation)
+  -- and so each good node reads each other right up to the error as the round ends
+  pub reads :
+      (k p q : ℕ) → k < rounds → GoodNode s.cluster good p → GoodNode s.cluster good q → (p ≢ q) →
+      Within (error_of s.cluster) (ahead (r.ends k p) (read_by (r.ends k) (r.heard k) p q)) (lead (r.ends k q))
+  -- what is sent is over, with its time on the wire, before a good node sends in any later slot
+  pub over_before :
       (k j p q : ℕ) → k ≤ rounds → j ≤ rounds → GoodNode s.cluster good p → GoodNode s.cluster good q →
       slot_of (timing_of s) k p < slot_of (timing_of s) j q → (r.sends k p).common + s.wire + s.message ≤ (r.sends j q).common
   -- every good clock is set before a good node sends in the next round, and no setting takes a node past the time at which it is to send
@@ -112,41 +145,46 @@ pub record Standing (s : Schedule) (good : ℕ → Bool) (rounds : ℕ) (r : Run
 
 -- Good clocks that start within the bound stay together, and good nodes hear each other and do not overlap, for any number of rounds and whatever the
 -- faulty nodes do.
-abbrev pub Stands : Type 0
-Stands =
-    (s : Schedule) (good : ℕ → Bool) (rounds : ℕ) (r : Run) → FewBad s.cluster good → Lawful s good rounds r → Started s good r →
+abbrev pub Stands : Type 0 → Type 0
+Stands M =
+    (s : Schedule) (good : ℕ → Bool) (rounds : ℕ) (r : Run M) → FewBad s.cluster good → Lawful s good rounds r → Started s good r →
     Standing s good rounds r
 
 -- There are such runs, over as many rounds as clocks can show. This may be chosen of them: the good clocks as the first round begins, how much each
--- has lost in a round when its node sends, how long each message is on its way and lasts, and what is heard of the faulty nodes in their slots.
+-- has lost in a round when its node sends, how long each message is on its way and lasts, what the messages hold, and all that a listener for a
+-- faulty node's slot is told of: any messages, on any wires and at any times.
 pub record Choice
-    (s : Schedule) (good : ℕ → Bool) (rounds : ℕ) (first : ℕ → Moment) (losses : ℕ → ℕ → ℕ) (delays lengths : ℕ → ℕ → ℕ → ℕ)
-    (lies : ℕ → ℕ → ℕ → Option ℤ) : Type 0 where
-  -- the clocks are within the bound, and show so little that none misses the first message
+    (s : Schedule) (good : ℕ → Bool) (rounds : ℕ) (first : ℕ → Moment) (losses : ℕ → ℕ → ℕ) (delays lengths : ℕ → ℕ → ℕ → ℕ) : Type 0 where
+  -- the clocks are within the bound and in round 0, and show so little that none misses the first message
   pub near : Apart s.cluster good (bound_of s.cluster) first
+  pub from_zero : (p : ℕ) → GoodNode s.cluster good p → (first p).clock.round ≡ 0
   pub early : (p : ℕ) → GoodNode s.cluster good p → (first p).clock.shown + bound_of s.cluster ≤ s.pause
   pub steady : (k p : ℕ) → losses k p ≤ s.cluster.drift
   pub on_time : (k p q : ℕ) → (delays k p q ≤ s.wire) × (delays k p q ≤ s.cluster.jitter)
   -- each lasts a tick at least, so that the schedule has to allow for one
   pub lasting : (k p q : ℕ) → (1 ≤ lengths k p q) × (lengths k p q ≤ s.message)
-  pub from_slots : (k p q : ℕ) → FromSlot (timing_of s) (slot_of (timing_of s) k q) (lies k p q)
   -- any run asks as much, since clocks stay below the limit: the good nodes can still send in the round after the last
   pub room : (p : ℕ) → GoodNode s.cluster good p → send_time_of (timing_of s) (slot_of (timing_of s) rounds p) < clock_limit
 
-pub record RunGiven
+pub record RunGiven {M : Type 0}
     (s : Schedule) (good : ℕ → Bool) (rounds : ℕ) (first : ℕ → Moment) (losses : ℕ → ℕ → ℕ) (delays lengths : ℕ → ℕ → ℕ → ℕ)
-    (lies : ℕ → ℕ → ℕ → Option ℤ) : Type 0 where
-  pub run : Run
+    (said : ℕ → ℕ → M) (lies : ℕ → ℕ → ℕ → List (Arrival M)) : Type 0 where
+  pub run : Run M
   pub lawful : Lawful s good rounds run
   pub started : Started s good run
   pub first_start : (p : ℕ) → run.starts 0 p ≡ first p
   pub lost :
       (k p : ℕ) → k ≤ rounds → GoodNode s.cluster good p → lead (run.sends k p) +ℤ pos (losses k p) ≡ lead (run.starts k p)
+  -- in a round no clock runs backwards
+  pub forward :
+      (k p : ℕ) (a b : Moment) → run.of_round k p a ≡ true → run.of_round k p b ≡ true → a.common ≤ b.common → a.clock.shown ≤ b.clock.shown
   pub delayed : (k p q : ℕ) → (run.begins k p q).common ≡ (run.sends k q).common + delays k p q
   pub lasted : (k p q : ℕ) → (run.over k p q).common ≡ (run.begins k p q).common + lengths k p q
-  pub lied : (k p q : ℕ) → q < s.cluster.nodes → good q ≡ false → slice_index_or (run.heard k p) q None ≡ lies k p q
+  pub says : (k q : ℕ) → run.said k q ≡ said k q
+  pub lied : (k p q : ℕ) → good q ≡ false → run.arrived k p q ≡ lies k p q
 
-abbrev pub RunCanBeGiven : Type 0
-RunCanBeGiven =
+abbrev pub RunCanBeGiven : Type 0 → Type 0
+RunCanBeGiven M =
     (s : Schedule) (good : ℕ → Bool) (rounds : ℕ) (first : ℕ → Moment) (losses : ℕ → ℕ → ℕ) (delays lengths : ℕ → ℕ → ℕ → ℕ)
-    (lies : ℕ → ℕ → ℕ → Option ℤ) → Choice s good rounds first losses delays lengths lies → RunGiven s good rounds first losses delays lengths lies
+    (said : ℕ → ℕ → M) (lies : ℕ → ℕ → ℕ → List (Arrival M)) → Choice s good rounds first losses delays lengths →
+    RunGiven s good rounds first losses delays lengths said lies

@@ -80,9 +80,10 @@ pub fn set_in_time_with_leads()
 {}
 
 /// Good clocks that start within the bound stay together, and good nodes hear each other and do not overlap,
-/// for any number of rounds and whatever the faulty nodes do.
-pub fn good_nodes_stand_together()
-    ensures { Stands }
+/// for any number of rounds and whatever the faulty nodes do. What a node hears is what its listeners answer
+/// of all that they are told of.
+pub fn good_nodes_stand_together<M: Copy>()
+    ensures { Stands M }
 {}
 
 /// The length of a slot is tight: a tick less, and a message is not heard.
@@ -115,9 +116,9 @@ pub fn round_can_be_heard()
     ensures { RoundCanBeHeard }
 {}
 
-/// A run as it is asked for where good nodes stand together exists: over as many rounds as clocks can show,
-/// with clocks that start apart and lose time, messages that are delayed, and anything heard of the faulty
-/// nodes in their slots.
-pub fn run_can_be_given()
-    ensures { RunCanBeGiven }
+/// There is a run of good nodes as `good_nodes_stand_together` asks for it: over as many rounds as clocks can
+/// show, with clocks that start apart and lose time, messages that are delayed and hold anything, and
+/// listeners for the slots of faulty nodes that are told of anything.
+pub fn run_can_be_given<M: Copy>()
+    ensures { RunCanBeGiven M }
 {}
