@@ -10,8 +10,8 @@ use Rattle.schedule.specs.Slots.{slot_of, round_end_of}
 use Rattle.schedule.specs.Theorems.{LeadsApart}
 use Rattle.schedule.specs.declared.limits.Schedule.{Schedule}
 
--- From any leads of good clocks, over a common time that is set back so far that none is behind it, that are within the width in each round and go
--- ahead by no more than the pause from one round to the next, there is a course.
+-- There is a course for any leads of good clocks that are within the width in each round and go ahead by no more than the pause from one round to the
+-- next. Common time is set back here so far that no clock is behind it.
 pub record Leads (s : Schedule) (good : ℕ → Bool) (leads : ℕ → ℕ → ℕ) (most : ℕ) : Type 0 where
   pub near : (k : ℕ) → LeadsApart s.cluster good (width_of s.cluster) (leads k)
   pub steps : (k p : ℕ) → leads (suc k) p ≤ leads k p + s.pause
@@ -28,8 +28,8 @@ abbrev pub CourseCanBeRun : Type 0
 CourseCanBeRun =
     (s : Schedule) (good : ℕ → Bool) (rounds : ℕ) (leads : ℕ → ℕ → ℕ) (most : ℕ) → Leads s good leads most → Coursed s good rounds leads most
 
--- For any slot and any message, as long on its way and as long as may be, there are clocks that are as far apart as is asked, the sender's, and the
--- receiver's as it begins to arrive and as it has ended, ahead of the sender's by so much less the width.
+-- For any slot, and any message that the schedule allows, there are clocks: the sender's, and the receiver's as the message begins to arrive and as it
+-- has ended, which are ahead of the sender's by `first` and by `last`, each less the width.
 pub record Passed (s : Schedule) (slot delay lasting first last : ℕ) : Type 0 where
   pub sent : Instant
   pub began : Instant

@@ -27,8 +27,8 @@ pub record Follow (t : Timing) : Type 0 where
 abbrev pub SlotsFollow : Type 0
 SlotsFollow = (s : Schedule) → Follow (timing_of s)
 
--- However many arrivals a listener was told of, of those that it took it answers the one that came whole in the slot from its node, and nothing where there was none or
--- more than one.
+-- However many arrivals a listener was told of, of those that it took it answers the one that came whole in the slot from its node, and nothing where
+-- there was none or more than one.
 abbrev pub HearsTheOnlyOne : {M : Type 0} → Listener M → Type 0
 HearsTheOnlyOne l = Answers l (answer_of l.whole)
 
@@ -38,8 +38,8 @@ HearsFromItsSlot {M} l =
     (opened : Listener M) (time : ℕ) (arrivals : List (Arrival M)) → Opened l.schedule l.slot time opened → Tells opened arrivals l →
     FromSlot (timing_of l.schedule) l.slot (option_map (λ received. received.deviation) (answer_of l.whole))
 
--- Within the width, what a node sends in its slot is whole in that slot where it arrives. As it sends, the sender is no
--- farther ahead than the width of the receiver when the message begins to arrive, and no farther behind it when the message has ended.
+-- Within the width, what a node sends in its slot is whole in that slot where it arrives. The sender's clock, as it sends, is at most the width ahead of
+-- the receiver's as the message begins to arrive, and at most the width behind it when the message has ended.
 abbrev pub HearsWhole : Type 0
 HearsWhole =
     (s : Schedule) (slot : ℕ) (sent began ended : Instant) → Sends (timing_of s) slot sent → Carried (timing_of s) sent began ended →
@@ -47,7 +47,8 @@ HearsWhole =
     whole_in (timing_of s) slot (owner_of (timing_of s) slot) began.shown ended.shown ≡ true
 
 -- And it is what a listener for that slot answers, with its deviation, where nothing else came whole in the slot on that wire: whatever came on the
--- others, or too early or too late, and in whatever order, as long as nothing ended behind it that the listener was told of before.
+-- others, or too early or too late, and in whatever order, as long as it ended no earlier than it began, than the listener began, and than all that the
+-- listener was told of before.
 pub record OnlyWhole {M : Type 0} (s : Schedule) (slot time : ℕ) (earlier : List (Arrival M)) (a : Arrival M) (later : List (Arrival M)) : Type 0 where
   pub own_wire : a.wire ≡ owner_of (timing_of s) slot
   pub none_earlier : AllByRecursion (λ x. came_whole s slot x ≡ false) earlier

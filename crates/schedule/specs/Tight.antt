@@ -42,7 +42,7 @@ seven = record {
 abbrev pub ShortLengthFails : Type 0
 ShortLengthFails = Unheard seven (record { nodes = 7; length = 456; pause = 137; message = 200; wire = 8 }) 0 (at 1000 137) (at 1008 257) (at 1208 457)
 
--- With a pause of 136, seven good clocks within the width, and all that good nodes do: node 0 reads the others as far ahead as it may, sets its clock
+-- With a pause of 136, seven good clocks within the width, which do all that good nodes do: node 0 reads the others as far ahead as it may, sets its clock
 -- by that, and runs fast by the drift. So it starts to send in the first slot of round 1 while node 1 is still a tick from the end of round 0. What
 -- begins to arrive there at once begins by its clock before the slot, and is not heard, whenever it ends.
 pub record FoundUnset (c : Cluster) (t : Timing) (round slot p q : ℕ) (good : ℕ → Bool) (sent sets began : Instant) : Type 0 where

@@ -5,8 +5,8 @@
 //! - `slots`: whose a slot is, and when by a node's own clock something is due in it.
 //! - `heard`: what was heard of several, kept only if it is one.
 //! - `listening`: what is heard in a slot, of all that arrives.
-//! - `theorems`: what is proved of messages between good nodes, each statement on a function that demands
-//!   it.
+//! - `theorems`: what is proved of messages between good nodes and of whole runs, each statement on a function
+//!   that demands it.
 
 #![tactic(auto)]
 

@@ -140,7 +140,7 @@ impl<M: Copy> Listener<M> {
         })
     }
 
-    // Whether it did.
+    // Whether an arrival came whole in the slot from the slot's node.
     fn is_whole(self, arrival: Arrival<M>) -> bool
         ensures { result ≡ came_whole self.schedule self.slot arrival }
     {

@@ -211,8 +211,8 @@ fn one(deviation: i64, message: u8) -> Option<Received<u8>> {
     Some(Received { deviation, message })
 }
 
-// Slot 8 is that of node 1, from 3656 to 4113, and a message is due at 3793. Of these arrivals this is
-// heard in it, by a listener that is told of one after another, and of all at once.
+// Slot 8 is that of node 1, from 3656 to 4113, and a message is due at 3793. What is heard in it of these
+// arrivals, by a listener that is told of one after another, and by `hear` of all at once.
 fn hears(rt: &impl Abort, cases: &[(&[Arrival<u8>], Option<Received<u8>>)]) -> Result<(), Fail> {
     let schedule = seven()?;
     for (arrivals, expected) in cases {

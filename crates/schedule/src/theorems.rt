@@ -28,8 +28,8 @@ pub fn messages_are_heard_whole()
     ensures { HearsWhole }
 {}
 
-/// A listener answers the message of its slot's node, if nothing else of that node came whole in the slot and
-/// nothing that it was told of before ended later.
+/// A listener answers the message of its slot's node, if nothing else of that node came whole in the slot, and
+/// it ended no earlier than it began, than the listener began, and than all that this was told of before.
 pub fn messages_are_answered<M: Copy>(listener: Listener<M>)
     ensures { HearsTheMessage listener }
 {}
@@ -39,7 +39,7 @@ pub fn good_nodes_hear_each_other()
     ensures { HearsGoodNodes }
 {}
 
-/// A good node reads a good one whose message it hears right up to the error.
+/// What a good node reads of a good one whose message it hears is right up to the error.
 pub fn good_nodes_read_right()
     ensures { ReadsRight }
 {}
@@ -54,12 +54,14 @@ pub fn heard_rounds_are_rounds()
     ensures { MakesARound }
 {}
 
-/// When a good node sends, each good node has set its clock for that round.
+/// When a good node sends, each good node has set its clock for that round, if good clocks were within the
+/// width.
 pub fn clocks_are_set_before()
     ensures { SetsBefore }
 {}
 
-/// What a good node sends is over before a good node sends in any later slot.
+/// What a good node sends is over before a good node sends in any later slot, where good clocks are within the
+/// width in each round.
 pub fn nothing_overlaps()
     ensures { NothingOverlaps }
 {}
