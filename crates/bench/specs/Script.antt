@@ -1,8 +1,12 @@
 -- What the lines of a script make of a cluster, and why one does not fit. Assumes nothing: these are definitions.
 use Rattle.std.specs.Prelude.{◌≡◌, ℕ, ◌<◌, Bool, not, List, [], ◌∷◌, ◌++◌, ℤ, is_some, is_none, Some, None, ◌==◌, nat_lt, replicate, slice_index_or, slice_set, unsigned_abs}
 use Rattle.std.specs.List.{position_or_len}
-use Rattle.midpoint.specs.Refusals.{Row, refused_if}
+use Rattle.midpoint.specs.Refusals.{Row, refused_if, first_applying}
 use Rattle.clock.specs.Config.{error_of}
+use Rattle.clock.specs.Config as numbers
+use Rattle.clock.specs.declared.config.Unfit as of_numbers
+use Rattle.schedule.specs.Config as times
+use Rattle.schedule.specs.declared.config.Unfit as of_times
 use Rattle.clock.specs.declared.limits.Cluster.{Cluster}
 use Rattle.cluster.specs.Rounds.{player, is_bad, heard_of, with_entry, with_place}
 use Rattle.schedule.specs.Heard.{with_one}
@@ -10,9 +14,37 @@ use Rattle.cluster.specs.declared.clocks.Player.{Player}
 use Rattle.schedule.specs.declared.heard.Heard.TheVariants.{Nothing}
 use Rattle.cluster.specs.declared.round.Round.{Round}
 use Rattle.bench.specs.declared.reason.Misfit.{Misfit}
-use Rattle.bench.specs.declared.reason.Misfit.TheVariants.{PastTheCluster, NamedTwice, NotNamed, NotGood, NotBad, OwnClock, JitterPast, DriftPast, JitterTwice, DriftTwice}
+use Rattle.bench.specs.declared.reason.Misfit.TheVariants.{Expected, NoCluster, NoSchedule, PastTheCluster, NamedTwice, NotNamed, NotGood, NotBad, OwnClock, JitterPast, DriftPast, JitterTwice, DriftTwice}
+use Rattle.bench.specs.declared.entry.Entry.{Entry}
+use Rattle.bench.specs.declared.entry.Entry.TheVariants as entry
+use Rattle.bench.specs.declared.reason.Lines.TheVariants as lines
 use Rattle.bench.specs.declared.script.Naming.{Naming}
 use Rattle.bench.specs.declared.script.Running.{Running}
+
+-- The first line gives a cluster with its numbers, or the first reason why there is none. Another line is not expected there.
+abbrev pub Configured : Entry → Cluster → Type 0
+Configured (entry.Cluster nodes faults drift jitter) c =
+    (first_applying (numbers.unfit nodes faults drift jitter) ≡ None) × numbers.ClusterOf nodes faults drift jitter c
+Configured other c = ⊥
+
+abbrev pub NotConfigured : Entry → Misfit → Type 0
+NotConfigured (entry.Cluster nodes faults drift jitter) misfit =
+    (why : of_numbers.Unfit) × (misfit ≡ NoCluster why) × (first_applying (numbers.unfit nodes faults drift jitter) ≡ Some (numbers.code_of why))
+    × numbers.ToldApart faults why
+NotConfigured other misfit = misfit ≡ Expected lines.Cluster
+
+-- The second line gives a schedule of the cluster with its times, of which no node is named yet, or the first reason why there is none. Another line
+-- is not expected there.
+abbrev pub Timed : Cluster → Entry → Naming → Type 0
+Timed c (entry.Timing length pause message wire) s =
+    (first_applying (times.unfit c length pause message wire) ≡ None) × times.ScheduleOf c length pause message wire s.schedule
+    × (s.players ≡ replicate 16 None)
+Timed c other s = ⊥
+
+abbrev pub NotTimed : Cluster → Entry → Misfit → Type 0
+NotTimed c (entry.Timing length pause message wire) misfit =
+    (why : of_times.Unfit) × (misfit ≡ NoSchedule why) × (first_applying (times.unfit c length pause message wire) ≡ Some why)
+NotTimed c other misfit = misfit ≡ Expected lines.Timing
 
 -- a node that the cluster does not have
 abbrev pub past : Cluster → ℕ → Row Misfit

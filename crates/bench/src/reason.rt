@@ -52,10 +52,10 @@ pub(crate) enum Misfit {
     Expected(Lines),
     /// There is no cluster with these numbers.
     #[error("refused {}: {}", Code::from(*.0), .0)]
-    NoCluster(#[from] clock::Unfit),
+    NoCluster(clock::Unfit),
     /// There is no schedule of it with these times.
     #[error("refused {}: {}", Code::from(*.0), .0)]
-    NoSchedule(#[from] schedule::Unfit),
+    NoSchedule(schedule::Unfit),
     #[error("node {node} is past the cluster")]
     PastTheCluster { node: u64 },
     #[error("node {node} is named twice")]

@@ -1,11 +1,11 @@
 //! A script, line after line: first the cluster, its timing and its nodes, then round after round.
-ghost use Rattle.std.specs.Prelude.{◌≡◌, ◌<◌, Bool, [], ◌∷◌, map, take, is_none};
+ghost use Rattle.std.specs.Prelude.{◌≡◌, ◌<◌, Bool, [], ◌∷◌, map, take, is_none, IfOk, IfErr};
 ghost use Rattle.std.specs.List.{position};
 ghost use Rattle.std.specs.Option.{unwrap_or};
 ghost use Rattle.midpoint.specs.Refusals.{ByRows};
 ghost use Rattle.cluster.specs.Rounds.{player};
 ghost use Rattle.cluster.specs.declared.clocks.Player.TheVariants.{Bad};
-ghost use Rattle.bench.specs.Script.{past, unless_passed, unnameable, Named, incomplete, not_good, not_bad, IndexOf, unsayable, Said, no_jitter, Jittered, no_drift, Drifted, nothing_said};
+ghost use Rattle.bench.specs.Script.{Configured, NotConfigured, Timed, NotTimed, past, unless_passed, unnameable, Named, incomplete, not_good, not_bad, IndexOf, unsayable, Said, no_jitter, Jittered, no_drift, Drifted, nothing_said};
 
 use crate::entry;
 use crate::entry::Entry;
@@ -109,7 +109,11 @@ fn goes_on(stage: Stage) -> Step {
     }
 }
 
-fn configured(entry: Entry) -> Result<Cluster, Misfit> {
+// The cluster, by the first line.
+fn configured(entry: Entry) -> Result<Cluster, Misfit>
+    ensures ok { IfOk result (Configured entry) }
+    ensures err { IfErr result (NotConfigured entry) }
+{
     let Entry::Cluster {
         nodes,
         faults,
@@ -119,10 +123,14 @@ fn configured(entry: Entry) -> Result<Cluster, Misfit> {
     else {
         return Err(Misfit::Expected(Lines::Cluster));
     };
-    Ok(Cluster::new(nodes, faults, drift, jitter)?)
+    Cluster::new(nodes, faults, drift, jitter).map_err(Misfit::NoCluster)
 }
 
-fn timed(cluster: Cluster, entry: Entry) -> Result<Naming, Misfit> {
+// The cluster's schedule, by the second line.
+fn timed(cluster: Cluster, entry: Entry) -> Result<Naming, Misfit>
+    ensures ok { IfOk result (Timed cluster entry) }
+    ensures err { IfErr result (NotTimed cluster entry) }
+{
     let Entry::Timing {
         length,
         pause,
@@ -133,7 +141,7 @@ fn timed(cluster: Cluster, entry: Entry) -> Result<Naming, Misfit> {
         return Err(Misfit::Expected(Lines::Timing));
     };
     Ok(Naming {
-        schedule: Schedule::new(cluster, length, pause, message, wire)?,
+        schedule: Schedule::new(cluster, length, pause, message, wire).map_err(Misfit::NoSchedule)?,
         players: [None; MAX_NODES],
     })
 }
