@@ -212,7 +212,7 @@ module _ {M : Type 0} (s : Schedule) (good : ℕ → Bool) (rounds : ℕ) (r : R
               | inl is ↦
                   let own : a.wire ≡ q = grind (arith, nat_tests, is, mod-mul-add k s.cluster.nodes q gq.0) in
                   let (j, u, differs, ends_in, e) = other own in
-                  absurd (other_out j u differs ends_in (subst (λ x. came_whole s (slot k q) x ≡ true) e is))
+                  absurd (other_out j u differs ends_in (subst (λ x. came_whole s (slot k q) x ≡ true) {y = arrival_of r j p q} e is))
               | inr part ↦ part
             ]
 

@@ -42,18 +42,18 @@ answered s r k p q = heard_in s (slot_of (timing_of s) k q) (r.opened k p q) (r.
 abbrev pub arrival_of : {M : Type 0} → Run M → ℕ → ℕ → ℕ → Arrival M
 arrival_of r k p q = record { wire = q; began = (r.begins k p q).clock.shown; ended = (r.over k p q).clock.shown; message = r.said k q }
 
--- the message of node q's round j ends in node p's round k
+-- the message of node q's round j ends in node p's round k: behind its start, and not behind its end
 abbrev pub EndsIn : {M : Type 0} → Run M → ℕ → ℕ → ℕ → ℕ → Type 0
 EndsIn r k j p q = ((r.starts k p).common < (r.over j p q).common) × ((r.over j p q).common ≤ (r.ends k p).common)
 
--- What node p is told of in round k besides q's message of that round: what comes on q's wire is another of q's messages, one that ends in this round.
--- Of what comes on other wires nothing is said.
+-- What node p's listener for node q's slot of round k is told of besides q's message of that round: if it comes on q's wire, it is another of q's
+-- messages, one that ends in this round. Of what comes on other wires nothing is said.
 abbrev pub OtherThan : {M : Type 0} → Run M → ℕ → ℕ → ℕ → ℕ → Arrival M → Type 0
 OtherThan r rounds k p q a =
     a.wire ≡ q → (j : ℕ) × (j ≤ rounds) × (j ≢ k) × EndsIn r k j p q × (a ≡ arrival_of r j p q)
 
--- What node p's listener for node q's slot of round k is told of: q's message of that round, once, and others. What it is told of before has not ended
--- later. It is open before that message has ended.
+-- All that it is told of: q's message of that round, once, and others; and of what comes before that message nothing ended later than it. The listener
+-- is open before that message has ended.
 pub record Told {M : Type 0} (r : Run M) (rounds k p q : ℕ) : Type 0 where
   pub earlier : List (Arrival M)
   pub later : List (Arrival M)
@@ -97,13 +97,13 @@ pub record Lawful {M : Type 0} (s : Schedule) (good : ℕ → Bool) (rounds : �
       (r.starts k p).common ≤ (r.begins j p q).common → (r.over j p q).common ≤ (r.ends k p).common →
       (r.of_round k p (r.begins j p q) ≡ true) × (r.of_round k p (r.over j p q) ≡ true)
       × ((r.begins j p q).clock.shown ≤ (r.over j p q).clock.shown)
-  -- what is heard of a node, good or not, is what the listener for its slot answers; so it is of a node's own slot too, which is not read
+  -- what is heard of a node, good or not, is what the listener for its slot answers: a node's own slot included, which is not read
   pub listened :
       (k p q : ℕ) → k < rounds → GoodNode s.cluster good p → q < s.cluster.nodes →
       slice_index_or (r.heard k p) q None ≡ option_map (λ received. received.deviation) (answered s r k p q)
   -- On the wire from a good node to a good one come that node's messages and nothing else. Where its message of the round begins and ends in that round
-  -- of the receiver, the listener for its slot is open before that has ended, and is told of it once; and of what it is told of before, on any wire,
-  -- nothing ended later.
+  -- of the receiver, the listener for its slot is open before that message has ended, and is told of it once; and what it is told of before, on any
+  -- wire, did not end later.
   pub wires :
       (k p q : ℕ) → k < rounds → GoodNode s.cluster good p → GoodNode s.cluster good q → (p ≢ q) →
       (r.starts k p).common ≤ (r.begins k p q).common → (r.over k p q).common ≤ (r.ends k p).common → Told r rounds k p q
@@ -181,6 +181,7 @@ pub record Choice
   -- any run asks as much, since clocks stay below the limit: the good nodes can still send in the round after the last
   pub room : (p : ℕ) → GoodNode s.cluster good p → send_time_of (timing_of s) (slot_of (timing_of s) rounds p) < clock_limit
 
+-- nothing of it is on the wire of the slot's node
 abbrev pub OnOtherWires : {M : Type 0} → (ℕ → ℕ → ℕ → List (Arrival M)) → Type 0
 OnOtherWires noise = (k p q : ℕ) → AllByRecursion (λ a. a.wire ≢ q) (noise k p q)
 
@@ -200,6 +201,7 @@ pub record RunGiven {M : Type 0}
   pub lasted : (k p q : ℕ) → (run.over k p q).common ≡ (run.begins k p q).common + lengths k p q
   pub says : (k q : ℕ) → run.said k q ≡ said k q
   pub lied : (k p q : ℕ) → good q ≡ false → run.arrived k p q ≡ lies k p q
+  -- where a good node's message begins and ends in the receiver's round of that number, as each does where few are bad, it arrives first, whole or not
   pub noisy :
       (k p q : ℕ) → k < rounds → GoodNode s.cluster good p → GoodNode s.cluster good q → (run.starts k p).common ≤ (run.begins k p q).common →
       (run.over k p q).common ≤ (run.ends k p).common → run.arrived k p q ≡ arrival_of run k p q ∷ noise k p q
