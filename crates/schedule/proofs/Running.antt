@@ -3,6 +3,7 @@ use borrow.Author.Differences.{ints}
 use Rattle.std.proofs.Common.{◌≡◌, ℕ, zero, suc, ◌+◌, ◌-◌, ◌*◌, ◌<◌, ◌≤◌, min, Bool, true, ◌&&◌, cond, ◌==◌, leb, List, [], ◌∷◌, get_or, ℤ, None, Option, refl, ap, subst, ◌∙◌, sym, inl, inr, mul-le-mul_right, arith}
 use Rattle.std.proofs.lemmas.Bool.{cases_lt}
 use Rattle.std.proofs.lemmas.Bool.Decides.{nat_tests}
+use Rattle.std.specs.List.{AllByRecursion}
 use Rattle.std.specs.Option.{option_map}
 use Rattle.midpoint.specs.Setting.{clock_limit}
 use Rattle.clock.specs.Config.{bound_of}
@@ -10,13 +11,13 @@ use Rattle.clock.specs.Rounds.{Moment, GoodNode}
 use Rattle.clock.specs.Setting.{readings, settled, next_round_of}
 use Rattle.clock.proofs.Heard.{as_heard, heard_of}
 use Rattle.schedule.specs.Config.{timing_of}
-use Rattle.schedule.specs.Listening.{came_whole, whole_ones, heard_in}
+use Rattle.schedule.specs.Listening.{heard_in}
 use Rattle.schedule.specs.Messages.{FromSlot}
-use Rattle.schedule.specs.Runs.{Run, arrival_of, WholeFor, Lawful, Choice, RunGiven, RunCanBeGiven}
+use Rattle.schedule.specs.Runs.{Run, arrival_of, OtherThan, Told, Lawful, Choice, OnOtherWires, RunGiven, RunCanBeGiven}
 use Rattle.schedule.specs.Slots.{Timing, slot_of, send_time_of, round_end_of}
 use Rattle.schedule.specs.declared.limits.Schedule.{Schedule}
 use Rattle.schedule.specs.declared.listening.Arrival.{Arrival}
-use Rattle.schedule.proofs.Answered.{one_whole, heard_from_slot}
+use Rattle.schedule.proofs.Answered.{heard_from_slot}
 use Rattle.schedule.proofs.Passing.{ahead_by, settles_no_farther, rises, in_round, behind_round}
 
 -- A clock at a later common time: it stands for the ticks that it loses, and then goes on.
@@ -63,7 +64,7 @@ runs_on : (m : Moment) (loss x time : ℕ) → m.common ≤ x → x ≤ comes_to
 runs_on m loss x time low high le h = grind (arith, nat_tests)
 
 module _ {M : Type 0} (s : Schedule) (good : ℕ → Bool) (rounds : ℕ) (first : ℕ → Moment) (losses : ℕ → ℕ → ℕ) (delays lengths : ℕ → ℕ → ℕ → ℕ)
-    (said : ℕ → ℕ → M) (lies : ℕ → ℕ → ℕ → List (Arrival M)) where
+    (said : ℕ → ℕ → M) (lies noise : ℕ → ℕ → ℕ → List (Arrival M)) where
   abbrev t : Timing
   t = timing_of s
 
@@ -87,7 +88,7 @@ module _ {M : Type 0} (s : Schedule) (good : ℕ → Bool) (rounds : ℕ) (first
     abbrev ending : ℕ → Moment
     ending p = at p (comes_to (start p) (losses k p) (round_end_of t k))
 
-    -- of a good node its message arrives, if it is whole in its slot
+    -- of a good node its message arrives, and then what comes on other wires
     abbrev seen : ℕ → Moment → Moment → Arrival M
     seen q begun over = record { wire = q; began = begun.clock.shown; ended = over.clock.shown; message = said k q }
 
@@ -95,7 +96,7 @@ module _ {M : Type 0} (s : Schedule) (good : ℕ → Bool) (rounds : ℕ) (first
     message p q = seen q (at p (beginning p q)) (at p (beginning p q + lengths k p q))
 
     abbrev arrivals : ℕ → ℕ → List (Arrival M)
-    arrivals p q = cond (good q) (cond (came_whole s (slot_of t k q) (message p q)) (message p q ∷ []) []) (lies k p q)
+    arrivals p q = cond (good q) (message p q ∷ noise k p q) (lies k p q)
 
     abbrev hears : ℕ → ℕ → Option ℤ
     hears p q = option_map (λ received. received.deviation) (heard_in s (slot_of t k q) 0 (arrivals p q))
@@ -155,7 +156,12 @@ module _ {M : Type 0} (s : Schedule) (good : ℕ → Bool) (rounds : ℕ) (first
         | inr same ↦ let e : k ≡ suc m = omega arith in let l : (starts (suc m) p).common ≤ x = rw e at low in grind (arith, nat_tests)
       ]
 
-  module _ (choice : Choice s good rounds first losses delays lengths) where
+  -- what comes on other wires is not asked about
+  noises : (k p q : ℕ) (xs : List (Arrival M)) → AllByRecursion (λ a. a.wire ≡ q → ⊥) xs → AllByRecursion (OtherThan run rounds k p q) xs
+  noises k p q [] others = tt
+  noises k p q (a ∷ xs) (other, others) = (λ own. absurd (other own), noises k p q xs others)
+
+  module _ (choice : Choice s good rounds first losses delays lengths) (other_wires : OnOtherWires noise) where
     -- what is due in a round is below the limit, and lies in it
     due_below : (k p : ℕ) → k ≤ rounds → GoodNode s.cluster good p → due k p < clock_limit
     due_below k p h g =
@@ -230,18 +236,29 @@ module _ {M : Type 0} (s : Schedule) (good : ℕ → Bool) (rounds : ℕ) (first
           let last = subst (λ a. run.of_round k p a ≡ true) (sym over) (in_its_round k p (run.over j p q).common h g (omega arith) high) in
           (first, last, goes_forward (starts k p) (losses k p) (run.begins j p q) (run.over j p q) first last (omega arith))
 
-    -- and all that comes whole, where it is whole in its slot
-    comes_alone : (k p q : ℕ) → k < rounds → GoodNode s.cluster good p → GoodNode s.cluster good q → WholeFor s run k k p q →
-        whole_ones s (slot_of t k q) 0 (run.arrived k p q) ≡ arrival_of run k p q ∷ []
+    -- and it is what arrives first in its slot
+    arrives : (k p q : ℕ) → k < rounds → GoodNode s.cluster good p → GoodNode s.cluster good q → (run.starts k p).common ≤ (run.begins k p q).common →
+        (run.over k p q).common ≤ (run.ends k p).common → run.arrived k p q ≡ arrival_of run k p q ∷ noise k p q
     unfolding run
-    comes_alone k p q h gp gq w =
-        let sent = message (starts k) k p q in
-        let (begun, over) = timed k k p q h gp w.begun_in w.over_in in
-        let same : arrival_of run k p q ≡ sent =
-        ap (λ a. seen (starts k) k q a (run.over k p q)) begun ∙ ap (seen (starts k) k q (at (starts k) k p (beginning (starts k) k p q))) over in
-        let whole : came_whole s (slot_of t k q) sent ≡ true = subst (λ a. came_whole s (slot_of t k q) a ≡ true) same w.whole in
+    arrives k p q h gp gq low high =
+        let (begun, over) = timed k k p q h gp low high in
         let g = gq.1 in
-        rw (g, whole) (one_whole s (slot_of t k q) 0 [] sent [] whole (omega arith) (omega arith) tt tt tt) ∙ ap (λ a. a ∷ []) (sym same)
+        let same : arrival_of run k p q ≡ message (starts k) k p q =
+        ap (λ a. seen (starts k) k q a (run.over k p q)) begun ∙ ap (seen (starts k) k q (at (starts k) k p (beginning (starts k) k p q))) over in
+        rw g (ap (λ a. a ∷ noise k p q) (sym same))
+
+    told : (k p q : ℕ) → k < rounds → GoodNode s.cluster good p → GoodNode s.cluster good q → (run.starts k p).common ≤ (run.begins k p q).common →
+        (run.over k p q).common ≤ (run.ends k p).common → Told run rounds k p q
+    unfolding run
+    told k p q h gp gq low high = record {
+      earlier = [];
+      later = noise k p q;
+      all = arrives k p q h gp gq low high;
+      others_earlier = tt;
+      others_later = noises k p q (noise k p q) (other_wires k p q);
+      in_order = tt;
+      in_time = omega arith;
+    }
 
     lawful : Lawful s good rounds run
     unfolding run starts
@@ -269,10 +286,10 @@ module _ {M : Type 0} (s : Schedule) (good : ℕ → Bool) (rounds : ℕ) (first
           (record { leaves = omega arith; arrives = omega arith; lasts = omega arith }, omega arith, omega arith);
       falls_in = λ k j p q h u gp gq d low high. in_round_then k j p q h gp low high;
       listened = λ k p q h g l. heard_of n s.cluster.most (hears (starts k) k p) q l;
-      wires = λ k p q h gp gq d w alone forward. comes_alone k p q h gp gq w;
+      wires = λ k p q h gp gq d low high. told k p q h gp gq low high;
     }
 
-    given : RunGiven s good rounds first losses delays lengths said lies
+    given : RunGiven s good rounds first losses delays lengths said lies noise
     unfolding run starts
     given = record {
       run = run;
@@ -290,7 +307,9 @@ module _ {M : Type 0} (s : Schedule) (good : ℕ → Bool) (rounds : ℕ) (first
       lasted = λ k p q. refl;
       says = λ k q. refl;
       lied = λ k p q b. rw b;
+      noisy = arrives;
     }
 
 pub run_can_be_given_lem : {M : Type 0} → RunCanBeGiven M
-run_can_be_given_lem s good rounds first losses delays lengths said lies choice = given s good rounds first losses delays lengths said lies choice
+run_can_be_given_lem s good rounds first losses delays lengths said lies noise choice other_wires =
+    given s good rounds first losses delays lengths said lies noise choice other_wires

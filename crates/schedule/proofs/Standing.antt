@@ -1,10 +1,11 @@
 -- A run of good nodes, by induction on its rounds: where the clocks are within the bound as a round begins, and no message was missed, each hears each
 -- in it, so that they are as the next one begins. Assumes nothing.
 use borrow.Author.Differences.{ints}
-use Rattle.std.proofs.Common.{◌≡◌, ℕ, zero, suc, ◌+◌, ◌*◌, ◌<◌, ◌≤◌, Bool, true, pos, ◌+ℤ◌, ◌≤ℤ◌, Some, None, get_or, sym, subst, refl, ap, ◌∙◌, inl, inr, add-mul, mul-le-mul_left, arith}
-use Rattle.std.proofs.lemmas.Bool.{cases_lt}
+use Rattle.std.proofs.Common.{◌≡◌, ℕ, zero, suc, ◌+◌, ◌*◌, ◌<◌, ◌≤◌, Bool, true, false, List, [], ◌∷◌, pos, ◌+ℤ◌, ◌≤ℤ◌, Some, None, get_or, sym, subst, refl, ap, ◌∙◌, inl, inr, add-mul, mul-le-mul_left, arith}
+use Rattle.std.proofs.lemmas.Bool.{cases_Bool, cases_lt}
 use Rattle.std.proofs.lemmas.Bool.Decides.{nat_tests}
 use Rattle.std.proofs.lemmas.Nat.{mod-mul-add, div-mul-add}
+use Rattle.std.specs.List.{AllByRecursion}
 use Rattle.std.specs.Option.{option_map}
 use Rattle.midpoint.specs.Setting.{clock_limit}
 use Rattle.clock.specs.Config.{bound_of, width_of}
@@ -12,12 +13,13 @@ use Rattle.clock.specs.Deviation.{deviation_of}
 use Rattle.clock.specs.Rounds.{Moment, lead, GoodNode, FewBad, Apart, Round}
 use Rattle.clock.proofs.Rounds.{set_closer}
 use Rattle.schedule.specs.Config.{timing_of}
-use Rattle.schedule.specs.Listening.{whole_in, as_heard, heard_as, only}
+use Rattle.schedule.specs.Listening.{whole_in, came_whole, as_heard, heard_as, heard_in, only}
 use Rattle.schedule.specs.Messages.{instant, AheadBy, SameRound, Course, FromSlot, HeardRound}
-use Rattle.schedule.specs.Runs.{Run, answered, arrival_of, WholeFor, Lawful, Started, Standing, Stands}
+use Rattle.schedule.specs.Runs.{Run, answered, arrival_of, EndsIn, OtherThan, Lawful, Started, Standing, Stands}
 use Rattle.schedule.specs.Slots.{Timing, slot_of, slot_start, slot_end_of, send_time_of, round_end_of}
 use Rattle.schedule.specs.declared.limits.Schedule.{Schedule}
-use Rattle.schedule.proofs.Answered.{heard_from_slot}
+use Rattle.schedule.specs.declared.listening.Arrival.{Arrival}
+use Rattle.schedule.proofs.Answered.{one_whole, heard_from_slot}
 use Rattle.schedule.proofs.Passing.{hears_whole, ahead_by, makes_a_round, settles_no_farther, sets_before, rises, slot_long, starts_later, in_round, behind_round, over_in_round, nothing_overlaps_lem}
 
 module _ {M : Type 0} (s : Schedule) (good : ℕ → Bool) (rounds : ℕ) (r : Run M) (few : FewBad s.cluster good) (law : Lawful s good rounds r) where
@@ -79,11 +81,15 @@ module _ {M : Type 0} (s : Schedule) (good : ℕ → Bool) (rounds : ℕ) (r : R
         s.behind,
       )
 
-  sends_end : (k p : ℕ) → k < rounds → Good p → (r.sends k p).common + s.cluster.drift ≤ (r.ends k p).common
+  sends_end : (k p : ℕ) → k < rounds → Good p → (r.sends k p).common + s.wire + s.cluster.drift ≤ (r.ends k p).common
   sends_end k p h g =
       let (sent, due) = law.sending k p (omega arith) g in
       let (ended, shows) = law.ending k p h g in
       omega (arith, drifted k p (r.ends k p) (r.sends k p) (omega arith) g ended sent, in_round s k p g.0, s.behind)
+
+  sends_rise : (k j p : ℕ) → k ≤ j → j ≤ rounds → Good p → (r.sends k p).common ≤ (r.sends j p).common
+  sends_rise k j p le h g =
+      rises (λ i. (r.sends i p).common) rounds (λ i l. omega (arith, sends_end i p l g, sends_behind i p l g, behind_round s i p)) k j le h
 
   -- the round that is counted stays below the limit, as the time to send in it does
   counts_on : (k p : ℕ) → k < rounds → Good p → (r.starts k p).clock.round ≡ k → (r.starts (suc k) p).clock.round ≡ suc k
@@ -150,46 +156,78 @@ module _ {M : Type 0} (s : Schedule) (good : ℕ → Bool) (rounds : ℕ) (r : R
             let fits = in_round s k q gq.0 in
             (grind (arith, nat_tests, whole), omega (arith, way.arrives, s.behind, (law.ending k p h gp).1))
 
-        -- one of a later round comes, by the receiver's clock, when the slot is over
-        later_out : (j : ℕ) → k < j → j ≤ rounds → WholeFor s r k j p q → ⊥
-        later_out j after u w =
-            let (way, _, _) = law.carried j p q u gp gq d in
-            let (_, over, _) = law.falls_in k j p q h u gp gq d w.begun_in w.over_in in
+        -- one of a later round begins behind the start of this one, and comes, by the receiver's clock, when the slot is over
+        later_out : (j : ℕ) → k < j → j ≤ rounds → EndsIn r k j p q →
+            whole_in t (slot k q) q (r.begins j p q).clock.shown (r.over j p q).clock.shown ≡ true → ⊥
+        later_out j after u (_, ends_in) is =
+            let (way, _, _) = law.carried k p q le gp gq d in
+            let (way_later, _, lasts_later) = law.carried j p q u gp gq d in
             let (ended, shows) = law.ending k p h gp in
             let (other, shows_other) = law.ending k q h gq in
-            let inside : (r.over j p q).clock.shown ≤ slot_end_of t (slot k q) = grind (arith, nat_tests, w.whole) in
+            let sends_later = sends_rise (suc k) j q after u gq in
+            let begun_in : (r.starts k p).common ≤ (r.begins j p q).common =
+            omega (
+              arith,
+              ready.listens p q gp gq d,
+              way.arrives,
+              sends_end k q h gq,
+              sends_behind k q h gq,
+              behind_round s k q,
+              sends_later,
+              way_later.leaves,
+            ) in
+            let (_, over, _) = law.falls_in k j p q h u gp gq d begun_in ends_in in
+            let inside : (r.over j p q).clock.shown ≤ slot_end_of t (slot k q) = grind (arith, nat_tests, is) in
             let turn : slot k q + 1 < slot (suc k) q = omega (arith, add-mul k 1 s.cluster.nodes, s.cluster.enough) in
-            let rise : (i : ℕ) → i < rounds → (r.sends i q).common ≤ (r.sends (suc i) q).common =
-            λ i l. omega (arith, sends_end i q l gq, sends_behind i q l gq, behind_round s i q) in
             omega (
               arith,
               drifted k p (r.ends k p) (r.over j p q) le gp ended over,
               near_by q p (r.ends k q) (r.ends k p) le gq gp other ended,
               sends_behind k q h gq,
-              rises (λ i. (r.sends i q).common) rounds rise (suc k) j after u,
+              sends_later,
               starts_later t (slot k q + 1) (slot (suc k) q) turn,
               slot_long t (slot k q + 1),
-              way.leaves,
-              (law.carried j p q u gp gq d).2,
+              way_later.leaves,
+              lasts_later,
               s.before,
               s.behind,
             )
 
-        alone : (j : ℕ) → j ≤ rounds → (j ≡ k → ⊥) → WholeFor s r k j p q → ⊥
-        alone j u other w =
+        other_out : (j : ℕ) → j ≤ rounds → (j ≡ k → ⊥) → EndsIn r k j p q →
+            whole_in t (slot k q) q (r.begins j p q).clock.shown (r.over j p q).clock.shown ≡ true → ⊥
+        other_out j u other ends_in is =
             elim (cases_lt j k) [
-              | inl less ↦ absurd (omega (arith, ready.past j p q less gp gq d, w.begun_in, (law.carried j p q u gp gq d).2))
+              | inl less ↦ omega (arith, ready.past j p q less gp gq d, ends_in.0)
               | inr more ↦
                   elim (cases_lt k j) [
-                    | inl after ↦ later_out j after u w
+                    | inl after ↦ later_out j after u ends_in is
                     | inr same ↦ other (omega arith)
                   ]
             ]
 
+        -- so nothing else that the listener is told of is whole in the slot
+        other_part : (a : Arrival M) → OtherThan r rounds k p q a → came_whole s (slot k q) a ≡ false
+        other_part a other =
+            elim (cases_Bool (came_whole s (slot k q) a)) [
+              | inl is ↦
+                  let own : a.wire ≡ q = grind (arith, nat_tests, is, mod-mul-add k s.cluster.nodes q gq.0) in
+                  let (j, u, differs, ends_in, e) = other own in
+                  absurd (other_out j u differs ends_in (subst (λ x. came_whole s (slot k q) x ≡ true) {y = arrival_of r j p q} e is))
+              | inr part ↦ part
+            ]
+
+        others_part : (xs : List (Arrival M)) → AllByRecursion (OtherThan r rounds k p q) xs →
+            AllByRecursion (λ x. came_whole s (slot k q) x ≡ false) xs
+        others_part [] others = tt
+        others_part (a ∷ xs) (other, others) = (other_part a other, others_part xs others)
+
         answer : answered s r k p q ≡ Some (as_heard t (slot k q) (arrival_of r k p q))
         answer =
-            ap (λ xs. heard_as t (slot k q) (only xs))
-            (law.wires k p q h gp gq d (record { begun_in = ready.listens p q gp gq d; over_in = lasts; whole = whole }) alone falls_in.2)
+            let told = law.wires k p q h gp gq d (ready.listens p q gp gq d) lasts in
+            let one =
+            one_whole s (slot k q) (r.opened k p q) told.earlier (arrival_of r k p q) told.later whole falls_in.2 told.in_time
+            (others_part told.earlier told.others_earlier) told.in_order (others_part told.later told.others_later) in
+            ap (heard_in s (slot k q) (r.opened k p q)) told.all ∙ ap (λ xs. heard_as t (slot k q) (only xs)) one
 
         heard : get_or (r.heard k p) q None ≡ Some (deviation_of (send_time_of t (slot k q)) (r.begins k p q).clock.shown)
         heard = law.listened k p q h gp gq.0 ∙ ap (option_map (λ received. received.deviation)) answer
@@ -208,6 +246,11 @@ module _ {M : Type 0} (s : Schedule) (good : ℕ → Bool) (rounds : ℕ) (r : R
         from_slots = λ p q g l. from_slots k p q h g l;
         room = λ p g. room k p h g;
       }
+
+      goes_round : Round s.cluster good (r.heard k) (r.ends k) (r.starts (suc k))
+      goes_round =
+          makes_a_round s good k (r.heard k) (r.ends k) (r.starts (suc k)) (λ p. (r.starts (suc k) p).clock) heard_round
+          (λ p g. (law.setting k p h g).1) (λ p g. let (e, _) = law.setting k p h g in (omega (arith, ints), omega (arith, ints))) (λ p g. refl)
 
       -- The clock as the node sends in the next round. What number it gives that round makes no difference here.
       next : ℕ → Moment
@@ -297,10 +340,19 @@ module _ {M : Type 0} (s : Schedule) (good : ℕ → Bool) (rounds : ℕ) (r : R
       listens = λ k p q h. (known k h).listens p q;
       lasts = λ k p q h. lasts k (known k (omega arith)) h p q;
       whole = λ k p q h. whole k (known k (omega arith)) h p q;
-      alone = λ k j p q h u other gp gq d. alone k (known k (omega arith)) h p q gp gq d j u other;
+      alone = λ k j p q h u gp gq d. (
+        λ less. (known k (omega arith)).past j p q less gp gq d,
+        λ more.
+            omega (
+              arith,
+              set_before k (known k (omega arith)) h p q gp gq,
+              sends_rise (suc k) j q more u gq,
+              (law.carried j p q u gp gq d).0.leaves,
+            ),
+      );
       heard = λ k p q h gp gq d.
           let ready = known k (omega arith) in (answer k ready h p q gp gq d, heard k ready h p q gp gq d);
-      reads = λ k p q h. (one_round k (known k (omega arith)) h).fair p q;
+      goes_round = λ k h. goes_round k (known k (omega arith)) h;
       over_before = λ k j p q hk hj gp gq order.
           nothing_overlaps_lem s good rounds (λ i n. instant (r.sends i n)) (λ i n. instant (r.ends i n)) k j p q course hk hj gp gq order;
       set_before = λ k p q h. set_before k (known k (omega arith)) h p q;

@@ -1,14 +1,15 @@
 -- A run of good nodes over any number of rounds, whatever the faulty ones do: clocks that are set, messages that pass, and what was heard of them.
 -- What holds of it, and that there are such runs, are statements that contracts of functions of src/theorems.rt demand. Assumes nothing.
-use Rattle.std.specs.Prelude.{◌≡◌, ℕ, suc, ◌+◌, ◌<◌, ◌≤◌, Bool, true, false, List, [], ◌∷◌, ℤ, pos, ◌+ℤ◌, ◌≤ℤ◌, Some, None, Option, ◌≢◌, slice_index_or}
+use Rattle.std.specs.Prelude.{◌≡◌, ℕ, suc, ◌+◌, ◌<◌, ◌≤◌, Bool, true, false, List, ◌∷◌, ◌++◌, ℤ, pos, ◌+ℤ◌, ◌≤ℤ◌, Some, None, Option, ◌≢◌, slice_index_or}
+use Rattle.std.specs.List.{AllByRecursion}
 use Rattle.std.specs.Option.{option_map}
 use Rattle.midpoint.specs.Setting.{clock_limit}
-use Rattle.clock.specs.Config.{error_of, bound_of, width_of}
+use Rattle.clock.specs.Config.{bound_of, width_of}
 use Rattle.clock.specs.Deviation.{deviation_of}
-use Rattle.clock.specs.Rounds.{Moment, ahead, lead, Within, GoodNode, FewBad, Apart, read_by}
+use Rattle.clock.specs.Rounds.{Moment, lead, GoodNode, FewBad, Apart, Round}
 use Rattle.clock.specs.Setting.{SetBy}
 use Rattle.schedule.specs.Config.{timing_of}
-use Rattle.schedule.specs.Listening.{whole_in, whole_ones, heard_in}
+use Rattle.schedule.specs.Listening.{whole_in, heard_in}
 use Rattle.schedule.specs.Messages.{instant, Sends, Carried}
 use Rattle.schedule.specs.Slots.{slot_of, send_time_of, round_end_of}
 use Rattle.schedule.specs.declared.limits.Schedule.{Schedule}
@@ -41,11 +42,26 @@ answered s r k p q = heard_in s (slot_of (timing_of s) k q) (r.opened k p q) (r.
 abbrev pub arrival_of : {M : Type 0} → Run M → ℕ → ℕ → ℕ → Arrival M
 arrival_of r k p q = record { wire = q; began = (r.begins k p q).clock.shown; ended = (r.over k p q).clock.shown; message = r.said k q }
 
--- The message of node q's round j falls into node p's round k, and is whole there in q's slot by p's clock.
-pub record WholeFor {M : Type 0} (s : Schedule) (r : Run M) (k j p q : ℕ) : Type 0 where
-  pub begun_in : (r.starts k p).common ≤ (r.begins j p q).common
-  pub over_in : (r.over j p q).common ≤ (r.ends k p).common
-  pub whole : whole_in (timing_of s) (slot_of (timing_of s) k q) q (r.begins j p q).clock.shown (r.over j p q).clock.shown ≡ true
+-- the message of node q's round j ends in node p's round k: behind its start, and not behind its end
+abbrev pub EndsIn : {M : Type 0} → Run M → ℕ → ℕ → ℕ → ℕ → Type 0
+EndsIn r k j p q = ((r.starts k p).common < (r.over j p q).common) × ((r.over j p q).common ≤ (r.ends k p).common)
+
+-- What node p's listener for node q's slot of round k is told of besides q's message of that round: if it comes on q's wire, it is another of q's
+-- messages, one that ends in this round. Of what comes on other wires nothing is said.
+abbrev pub OtherThan : {M : Type 0} → Run M → ℕ → ℕ → ℕ → ℕ → Arrival M → Type 0
+OtherThan r rounds k p q a =
+    a.wire ≡ q → (j : ℕ) × (j ≤ rounds) × (j ≢ k) × EndsIn r k j p q × (a ≡ arrival_of r j p q)
+
+-- All that it is told of: q's message of that round, once, and others; and of what comes before that message nothing ended later than it. The listener
+-- is open before that message has ended.
+pub record Told {M : Type 0} (r : Run M) (rounds k p q : ℕ) : Type 0 where
+  pub earlier : List (Arrival M)
+  pub later : List (Arrival M)
+  pub all : r.arrived k p q ≡ earlier ++ arrival_of r k p q ∷ later
+  pub others_earlier : AllByRecursion (OtherThan r rounds k p q) earlier
+  pub others_later : AllByRecursion (OtherThan r rounds k p q) later
+  pub in_order : AllByRecursion (λ a. a.ended ≤ (r.over k p q).clock.shown) earlier
+  pub in_time : r.opened k p q ≤ (r.over k p q).clock.shown
 
 -- What is asked of a run over so many rounds, and of the next one as far as it goes. Nothing is asked of the faulty nodes, nor of what arrives from
 -- them. It is not asked that messages are heard, that they fall into the receiver's round of the same number, that no other falls there, that clocks
@@ -81,17 +97,16 @@ pub record Lawful {M : Type 0} (s : Schedule) (good : ℕ → Bool) (rounds : �
       (r.starts k p).common ≤ (r.begins j p q).common → (r.over j p q).common ≤ (r.ends k p).common →
       (r.of_round k p (r.begins j p q) ≡ true) × (r.of_round k p (r.over j p q) ≡ true)
       × ((r.begins j p q).clock.shown ≤ (r.over j p q).clock.shown)
-  -- what is heard of a node, good or not, is what the listener for its slot answers
+  -- what is heard of a node, good or not, is what the listener for its slot answers: a node's own slot included, which is not read
   pub listened :
       (k p q : ℕ) → k < rounds → GoodNode s.cluster good p → q < s.cluster.nodes →
       slice_index_or (r.heard k p) q None ≡ option_map (λ received. received.deviation) (answered s r k p q)
-  -- On the wire from a good node to a good one nothing comes but that node's messages, and the listener is told of each, and of all else, in the
-  -- order in which they end. So where the message of the round is whole in its slot, and no other of its sender's messages in all these rounds is,
-  -- that is all that comes whole there, of all that the listener is told of.
+  -- On the wire from a good node to a good one come that node's messages and nothing else. Where its message of the round begins and ends in that round
+  -- of the receiver, the listener for its slot is open before that message has ended, and is told of it once; and what it is told of before, on any
+  -- wire, did not end later.
   pub wires :
-      (k p q : ℕ) → k < rounds → GoodNode s.cluster good p → GoodNode s.cluster good q → (p ≢ q) → WholeFor s r k k p q →
-      ((j : ℕ) → j ≤ rounds → (j ≢ k) → WholeFor s r k j p q → ⊥) → (r.begins k p q).clock.shown ≤ (r.over k p q).clock.shown →
-      whole_ones s (slot_of (timing_of s) k q) (r.opened k p q) (r.arrived k p q) ≡ arrival_of r k p q ∷ []
+      (k p q : ℕ) → k < rounds → GoodNode s.cluster good p → GoodNode s.cluster good q → (p ≢ q) →
+      (r.starts k p).common ≤ (r.begins k p q).common → (r.over k p q).common ≤ (r.ends k p).common → Told r rounds k p q
 
 -- How it starts: good clocks are within the bound and in round 0, and each is in that round when the first message of another good node begins to
 -- arrive. That a node's own sending in that round is behind its start is not asked.
@@ -110,8 +125,8 @@ pub record Standing {M : Type 0} (s : Schedule) (good : ℕ → Bool) (rounds : 
       r.of_round k q b ≡ true → lead a ≤ℤ (lead b +ℤ pos (width_of s.cluster))
   -- each good node counts the rounds right
   pub counted : (k p : ℕ) → k ≤ rounds → GoodNode s.cluster good p → (r.starts k p).clock.round ≡ k
-  -- A message finds the receiver in the round that it is of, is whole in its slot, and alone there. So it is what the receiver's listener answers,
-  -- and its deviation is what the setting is handed.
+  -- A message finds the receiver in the round that it is of, and is whole in its slot. Its sender's messages of other rounds are over before that round,
+  -- or begin behind it. So it is what the receiver's listener answers, and its deviation is what the setting is handed.
   pub listens :
       (k p q : ℕ) → k ≤ rounds → GoodNode s.cluster good p → GoodNode s.cluster good q → (p ≢ q) →
       (r.starts k p).common ≤ (r.begins k p q).common
@@ -122,17 +137,16 @@ pub record Standing {M : Type 0} (s : Schedule) (good : ℕ → Bool) (rounds : 
       (k p q : ℕ) → k < rounds → GoodNode s.cluster good p → GoodNode s.cluster good q → (p ≢ q) →
       whole_in (timing_of s) (slot_of (timing_of s) k q) q (r.begins k p q).clock.shown (r.over k p q).clock.shown ≡ true
   pub alone :
-      (k j p q : ℕ) → k < rounds → j ≤ rounds → (j ≢ k) → GoodNode s.cluster good p → GoodNode s.cluster good q → (p ≢ q) →
-      WholeFor s r k j p q → ⊥
+      (k j p q : ℕ) → k < rounds → j ≤ rounds → GoodNode s.cluster good p → GoodNode s.cluster good q → (p ≢ q) →
+      (j < k → (r.over j p q).common ≤ (r.starts k p).common) × (k < j → (r.ends k p).common ≤ (r.begins j p q).common)
   pub heard :
       (k p q : ℕ) → k < rounds → GoodNode s.cluster good p → GoodNode s.cluster good q → (p ≢ q) →
       let deviation = deviation_of (send_time_of (timing_of s) (slot_of (timing_of s) k q)) (r.begins k p q).clock.shown in
       (answered s r k p q ≡ Some (record { deviation = deviation; message = r.said k q }))
       × (slice_index_or (r.heard k p) q None ≡ Some deviation)
-  -- and so each good node reads each other right up to the error as the round ends
-  pub reads :
-      (k p q : ℕ) → k < rounds → GoodNode s.cluster good p → GoodNode s.cluster good q → (p ≢ q) →
-      Within (error_of s.cluster) (ahead (r.ends k p) (read_by (r.ends k) (r.heard k) p q)) (lead (r.ends k q))
+  -- So each round is one of the clock's, from its end to the start of the next, and all that is proved of those holds: good nodes read each other right up
+  -- to the error, the setting halves what they are apart, nobody is pulled out, and no good node's setting is turned away.
+  pub goes_round : (k : ℕ) → k < rounds → Round s.cluster good (r.heard k) (r.ends k) (r.starts (suc k))
   -- what is sent is over, with its time on the wire, before a good node sends in any later slot
   pub over_before :
       (k j p q : ℕ) → k ≤ rounds → j ≤ rounds → GoodNode s.cluster good p → GoodNode s.cluster good q →
@@ -151,8 +165,9 @@ Stands M =
     Standing s good rounds r
 
 -- There are such runs, over as many rounds as clocks can show. This may be chosen of them: the good clocks as the first round begins, how much each
--- has lost in a round when its node sends, how long each message is on its way and lasts, what the messages hold, and all that a listener for a
--- faulty node's slot is told of: any messages, on any wires and at any times.
+-- has lost in a round when its node sends, how long each message is on its way and lasts, what the messages hold, all that a listener for a faulty
+-- node's slot is told of (any messages, on any wires and at any times), and all that one for a good node's slot is told of behind that node's message
+-- (any, on other wires and at any times).
 pub record Choice
     (s : Schedule) (good : ℕ → Bool) (rounds : ℕ) (first : ℕ → Moment) (losses : ℕ → ℕ → ℕ) (delays lengths : ℕ → ℕ → ℕ → ℕ) : Type 0 where
   -- the clocks are within the bound and in round 0, and show so little that none misses the first message
@@ -166,9 +181,13 @@ pub record Choice
   -- any run asks as much, since clocks stay below the limit: the good nodes can still send in the round after the last
   pub room : (p : ℕ) → GoodNode s.cluster good p → send_time_of (timing_of s) (slot_of (timing_of s) rounds p) < clock_limit
 
+-- nothing of it is on the wire of the slot's node
+abbrev pub OnOtherWires : {M : Type 0} → (ℕ → ℕ → ℕ → List (Arrival M)) → Type 0
+OnOtherWires noise = (k p q : ℕ) → AllByRecursion (λ a. a.wire ≢ q) (noise k p q)
+
 pub record RunGiven {M : Type 0}
     (s : Schedule) (good : ℕ → Bool) (rounds : ℕ) (first : ℕ → Moment) (losses : ℕ → ℕ → ℕ) (delays lengths : ℕ → ℕ → ℕ → ℕ)
-    (said : ℕ → ℕ → M) (lies : ℕ → ℕ → ℕ → List (Arrival M)) : Type 0 where
+    (said : ℕ → ℕ → M) (lies noise : ℕ → ℕ → ℕ → List (Arrival M)) : Type 0 where
   pub run : Run M
   pub lawful : Lawful s good rounds run
   pub started : Started s good run
@@ -182,9 +201,13 @@ pub record RunGiven {M : Type 0}
   pub lasted : (k p q : ℕ) → (run.over k p q).common ≡ (run.begins k p q).common + lengths k p q
   pub says : (k q : ℕ) → run.said k q ≡ said k q
   pub lied : (k p q : ℕ) → good q ≡ false → run.arrived k p q ≡ lies k p q
+  -- where a good node's message begins and ends in the receiver's round of that number, as each does where few are bad, it arrives first, whole or not
+  pub noisy :
+      (k p q : ℕ) → k < rounds → GoodNode s.cluster good p → GoodNode s.cluster good q → (run.starts k p).common ≤ (run.begins k p q).common →
+      (run.over k p q).common ≤ (run.ends k p).common → run.arrived k p q ≡ arrival_of run k p q ∷ noise k p q
 
 abbrev pub RunCanBeGiven : Type 0 → Type 0
 RunCanBeGiven M =
     (s : Schedule) (good : ℕ → Bool) (rounds : ℕ) (first : ℕ → Moment) (losses : ℕ → ℕ → ℕ) (delays lengths : ℕ → ℕ → ℕ → ℕ)
-    (said : ℕ → ℕ → M) (lies : ℕ → ℕ → ℕ → List (Arrival M)) → Choice s good rounds first losses delays lengths →
-    RunGiven s good rounds first losses delays lengths said lies
+    (said : ℕ → ℕ → M) (lies noise : ℕ → ℕ → ℕ → List (Arrival M)) → Choice s good rounds first losses delays lengths → OnOtherWires noise →
+    RunGiven s good rounds first losses delays lengths said lies noise

@@ -83,7 +83,7 @@ pub fn set_in_time_with_leads()
 
 /// Good clocks that start within the bound stay together, and good nodes hear each other and do not overlap,
 /// for any number of rounds and whatever the faulty nodes do. What a node hears is what its listeners answer
-/// of all that they are told of.
+/// of all that they are told of, and each round is one that the clock's theorems speak of.
 pub fn good_nodes_stand_together<M: Copy>()
     ensures { Stands M }
 {}
@@ -120,7 +120,8 @@ pub fn round_can_be_heard()
 
 /// There is a run of good nodes as `good_nodes_stand_together` asks for it: over as many rounds as clocks can
 /// show, with clocks that start apart and lose time, messages that are delayed and hold anything, and
-/// listeners for the slots of faulty nodes that are told of anything.
+/// listeners that are told of anything in the slots of faulty nodes, and of anything on other wires in those
+/// of good ones.
 pub fn run_can_be_given<M: Copy>()
     ensures { RunCanBeGiven M }
 {}
