@@ -13,7 +13,7 @@ use Rattle.clock.proofs.Heard.{as_heard, heard_of}
 use Rattle.schedule.specs.Config.{timing_of}
 use Rattle.schedule.specs.Listening.{heard_in}
 use Rattle.schedule.specs.Messages.{FromSlot}
-use Rattle.schedule.specs.Runs.{Run, arrival_of, OtherThan, Told, Lawful, Choice, OnOtherWires, RunGiven, RunCanBeGiven}
+use Rattle.schedule.specs.Runs.{Run, arrival_of, OtherThan, Delivered, Lawful, Choice, OnOtherWires, RunGiven, RunCanBeGiven}
 use Rattle.schedule.specs.Slots.{Timing, slot_of, send_time_of, round_end_of}
 use Rattle.schedule.specs.declared.limits.Schedule.{Schedule}
 use Rattle.schedule.specs.declared.listening.Arrival.{Arrival}
@@ -248,7 +248,7 @@ module _ {M : Type 0} (s : Schedule) (good : ℕ → Bool) (rounds : ℕ) (first
         rw g (ap (λ a. a ∷ noise k p q) (sym same))
 
     told : (k p q : ℕ) → k < rounds → GoodNode s.cluster good p → GoodNode s.cluster good q → (run.starts k p).common ≤ (run.begins k p q).common →
-        (run.over k p q).common ≤ (run.ends k p).common → Told run rounds k p q
+        (run.over k p q).common ≤ (run.ends k p).common → Delivered run rounds k p q
     unfolding run
     told k p q h gp gq low high = record {
       earlier = [];

@@ -54,7 +54,7 @@ OtherThan r rounds k p q a =
 
 -- All that it is told of: q's message of that round, once, and others; and of what comes before that message nothing ended later than it. The listener
 -- is open before that message has ended.
-pub record Told {M : Type 0} (r : Run M) (rounds k p q : ℕ) : Type 0 where
+pub record Delivered {M : Type 0} (r : Run M) (rounds k p q : ℕ) : Type 0 where
   pub earlier : List (Arrival M)
   pub later : List (Arrival M)
   pub all : r.arrived k p q ≡ earlier ++ arrival_of r k p q ∷ later
@@ -106,7 +106,7 @@ pub record Lawful {M : Type 0} (s : Schedule) (good : ℕ → Bool) (rounds : �
   -- wire, did not end later.
   pub wires :
       (k p q : ℕ) → k < rounds → GoodNode s.cluster good p → GoodNode s.cluster good q → (p ≢ q) →
-      (r.starts k p).common ≤ (r.begins k p q).common → (r.over k p q).common ≤ (r.ends k p).common → Told r rounds k p q
+      (r.starts k p).common ≤ (r.begins k p q).common → (r.over k p q).common ≤ (r.ends k p).common → Delivered r rounds k p q
 
 -- How it starts: good clocks are within the bound and in round 0, and each is in that round when the first message of another good node begins to
 -- arrive. That a node's own sending in that round is behind its start is not asked.
