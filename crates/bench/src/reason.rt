@@ -50,6 +50,7 @@ pub(crate) enum Misfit {
     /// Another line has to stand here.
     #[error("expected {0}")]
     Expected(Lines),
+    // No `#[from]` on this and the next: a `From` that is derived promises nothing, and contracts name them.
     /// There is no cluster with these numbers.
     #[error("refused {}: {}", Code::from(*.0), .0)]
     NoCluster(clock::Unfit),

@@ -286,7 +286,7 @@ module _ {M : Type 0} (s : Schedule) (good : ℕ → Bool) (rounds : ℕ) (first
           (record { leaves = omega arith; arrives = omega arith; lasts = omega arith }, omega arith, omega arith);
       falls_in = λ k j p q h u gp gq d low high. in_round_then k j p q h gp low high;
       listened = λ k p q h g l. heard_of n s.cluster.most (hears (starts k) k p) q l;
-      wires = λ k p q h gp gq d low high. told k p q h gp gq low high;
+      wires = λ k p q h gp gq d low high is. told k p q h gp gq low high;
     }
 
     given : RunGiven s good rounds first losses delays lengths said lies noise

@@ -223,7 +223,7 @@ module _ {M : Type 0} (s : Schedule) (good : ℕ → Bool) (rounds : ℕ) (r : R
 
         answer : answered s r k p q ≡ Some (as_heard t (slot k q) (arrival_of r k p q))
         answer =
-            let told = law.wires k p q h gp gq d (ready.listens p q gp gq d) lasts in
+            let told = law.wires k p q h gp gq d (ready.listens p q gp gq d) lasts whole in
             let one =
             one_whole s (slot k q) (r.opened k p q) told.earlier (arrival_of r k p q) told.later whole falls_in.2 told.in_time
             (others_part told.earlier told.others_earlier) told.in_order (others_part told.later told.others_later) in

@@ -84,11 +84,12 @@ pub record Lawful {M : Type 0} (s : Schedule) (good : ℕ → Bool) (rounds : �
       ((r.starts (suc k) p).common ≡ (r.ends k p).common) × SetBy s.cluster p (r.ends k p).clock (r.heard k p) (r.starts (suc k) p).clock
   -- and in a round the node counts the same round
   pub counts : (k p : ℕ) → k < rounds → GoodNode s.cluster good p → (r.ends k p).clock.round ≡ (r.starts k p).clock.round
-  -- a message between good nodes sets out when it is sent, takes no longer than the wire and the jitter allow, and lasts at least a tick
+  -- a message between good nodes sets out when it is sent, is on its way no longer than the wire's time and no longer than the jitter, and does not end
+  -- before it begins
   pub carried :
       (k p q : ℕ) → k ≤ rounds → GoodNode s.cluster good p → GoodNode s.cluster good q → (p ≢ q) →
       Carried (timing_of s) (instant (r.sends k q)) (instant (r.begins k p q)) (instant (r.over k p q))
-      × ((r.begins k p q).common ≤ (r.sends k q).common + s.cluster.jitter) × ((r.begins k p q).common < (r.over k p q).common)
+      × ((r.begins k p q).common ≤ (r.sends k q).common + s.cluster.jitter) × ((r.begins k p q).common ≤ (r.over k p q).common)
   -- Where it begins and ends in a round of the receiver, of whatever number, the receiver's clock is then in that round, and does not run backwards
   -- meanwhile. So one that begins at the very tick of a setting is timed by the clock as it was set, and one that has ended at it by the clock before
   -- it was set.
@@ -102,11 +103,13 @@ pub record Lawful {M : Type 0} (s : Schedule) (good : ℕ → Bool) (rounds : �
       (k p q : ℕ) → k < rounds → GoodNode s.cluster good p → q < s.cluster.nodes →
       slice_index_or (r.heard k p) q None ≡ option_map (λ received. received.deviation) (answered s r k p q)
   -- On the wire from a good node to a good one come that node's messages and nothing else. Where its message of the round begins and ends in that round
-  -- of the receiver, the listener for its slot is open before that message has ended, and is told of it once; and what it is told of before, on any
-  -- wire, did not end later.
+  -- of the receiver, and while its slot lasts by the receiver's clock, the listener for the slot is open before that message has ended, and is told of
+  -- it once; and what it is told of before, on any wire, did not end later.
   pub wires :
       (k p q : ℕ) → k < rounds → GoodNode s.cluster good p → GoodNode s.cluster good q → (p ≢ q) →
-      (r.starts k p).common ≤ (r.begins k p q).common → (r.over k p q).common ≤ (r.ends k p).common → Delivered r rounds k p q
+      (r.starts k p).common ≤ (r.begins k p q).common → (r.over k p q).common ≤ (r.ends k p).common →
+      whole_in (timing_of s) (slot_of (timing_of s) k q) q (r.begins k p q).clock.shown (r.over k p q).clock.shown ≡ true →
+      Delivered r rounds k p q
 
 -- How it starts: good clocks are within the bound and in round 0, and each is in that round when the first message of another good node begins to
 -- arrive. That a node's own sending in that round is behind its start is not asked.
