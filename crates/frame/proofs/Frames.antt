@@ -1,0 +1,126 @@
+-- What is proved of frames. Assumes nothing.
+use Rattle.std.proofs.Common.{◌≡◌, ℕ, ◌+◌, ◌*◌, ◌/◌, ◌%◌, ◌^◌, ◌≤◌, ◌<◌, List, [], ◌∷◌, ◌++◌, length, take, drop, nat_lt, true, false, All, inl, inr, sym, refl, ap, ◌∙◌, arith}
+use Rattle.std.proofs.lemmas.Bool.{cases_lt, lt-ltb, le-ltb}
+use Rattle.std.proofs.lemmas.Bool.Decides.{nat_tests}
+use Rattle.std.proofs.lemmas.List.{drop_more, drop-drop, take-append-drop, length-take-le, length-drop, take_all, take_at, append-nil, length-append, set_past}
+use Rattle.std.proofs.lemmas.List.FromFn.{length-map-range_with_len, get_or-map-range_with_len}
+use Rattle.frame.specs.Numbers.{low_first, numbers_in, Bytes}
+use Rattle.frame.specs.Layout.{value_length, told_round_of, count_of, length_of, header_of, bytes_of, frame_of, sender_in, round_in, payload_of, values_in}
+use Rattle.frame.specs.Writing.{first_values}
+use Rattle.frame.specs.Theorems.{Carried, Taken, ReadAs, RoundTrip, Exact, SaidOneWay, LengthsAreWithin, PutIsRead}
+use Rattle.frame.specs.declared.turn.Turn.{Turn}
+use Rattle.frame.proofs.Counts.{few_values, some_values}
+use Rattle.frame.proofs.Bytes.{length-row, number_written, numbers_written, bytes_read, take_bytes, drop_bytes, row_read, numbers_fit, length-numbers_in, number_put}
+
+-- what the checks say of a frame that they take
+pub record Passed (t : Turn) (row : List ℕ) : Type 0 where
+  pub length_is : length row ≡ length_of t
+  pub sender_is : sender_in row ≡ t.sender
+  pub round_is : round_in row ≡ told_round_of t
+
+passed : (t : Turn) (row : List ℕ) → Taken t row → Passed t row
+passed t row taken = grind (arith, nat_tests)
+
+taken_from : (t : Turn) (row : List ℕ) → Passed t row → Taken t row
+taken_from t row p = grind (arith, nat_tests)
+
+-- the values of a payload that was filled
+values_written : (values : List ℕ) → All (λ value. value < 2 ^ 32) values → values_in (bytes_of values) ≡ values
+values_written values fit =
+    let count : length (bytes_of values) / value_length ≡ length values = omega (arith, length-row value_length values) in
+    let read : numbers_in value_length (length values) (bytes_of values ++ []) ≡ values = numbers_written value_length values [] fit in
+    rw count (rw (append-nil (bytes_of values)) at read)
+
+-- a payload of whole values
+payload_read : (payload : List ℕ) (count : ℕ) → Bytes payload → length payload ≡ value_length * count → bytes_of (values_in payload) ≡ payload
+payload_read payload count bytes long =
+    let many : length payload / value_length ≡ count = omega (arith, long) in
+    rw many (row_read value_length count payload bytes (omega (arith, long)) ∙ take_all (value_length * count) payload (omega (arith, long)))
+
+-- a row of bytes that is long enough is a header and a payload
+row_is : (row : List ℕ) → Bytes row → 5 ≤ length row → row ≡ sender_in row ∷ low_first 4 (round_in row) ++ payload_of row
+row_is row bytes h =
+    let long : length (take 4 (drop 1 row)) ≡ 4 = length-take-le 4 (drop 1 row) (omega (arith, length-drop 1 row)) in
+    let round : low_first 4 (round_in row) ≡ take 4 (drop 1 row) =
+    ap (λ width. low_first width (round_in row)) (sym long) ∙ bytes_read (take 4 (drop 1 row)) (take_bytes 4 (drop 1 row) (drop_bytes 1 row bytes)) in
+    let rest : take 4 (drop 1 row) ++ payload_of row ≡ drop 1 row = ap (λ t. take 4 (drop 1 row) ++ t) (sym (drop-drop 4 1 row)) ∙ take-append-drop 4 (drop 1 row) in
+    drop_more row 0 0 (omega arith) ∙ ap (λ t. sender_in row ∷ t) (sym rest ∙ ap (λ t. t ++ payload_of row) (sym round))
+
+-- a frame that was written for values is taken, and has them
+pub carried_read : (t : Turn) (values : List ℕ) → Carried t values → ReadAs t (frame_of t values) values
+carried_read t values carried = record {
+  taken =
+      taken_from t (frame_of t values)
+      (record {
+        length_is = omega (arith, length-row value_length values, carried.as_many);
+        sender_is = refl;
+        round_is = number_written 4 (t.round % 2 ^ 32) (omega arith);
+      });
+  same_values = values_written values carried.fit;
+}
+
+-- what is taken was written for the values that it has
+pub taken_written : (t : Turn) (row : List ℕ) → Bytes row → Taken t row → Carried t (values_in (payload_of row)) × (row ≡ frame_of t (values_in (payload_of row)))
+taken_written t row bytes taken =
+    let p = passed t row taken in
+    let long : length (payload_of row) ≡ value_length * count_of t = omega (arith, length-drop 5 row, p.length_is) in
+    let many : length (payload_of row) / value_length ≡ count_of t = omega (arith, long) in
+    let behind = drop_bytes 5 row bytes in (
+      record {
+        as_many = length-numbers_in value_length (length (payload_of row) / value_length) (payload_of row) ∙ many;
+        fit = numbers_fit value_length (length (payload_of row) / value_length) (payload_of row) behind (omega arith);
+      },
+      row_is row bytes (omega (arith, p.length_is))
+          ∙ rw (p.sender_is, p.round_is) (ap (λ payload. header_of t ++ payload) (sym (payload_read (payload_of row) (count_of t) behind long))),
+    )
+
+pub round_trip : RoundTrip
+round_trip t value memory fit =
+    let values = first_values value (count_of t) in
+    let many : length values ≡ count_of t = length-map-range_with_len value 0 (count_of t) in
+    let carried : Carried t values = record {
+      as_many = many;
+      fit = λ k d h. rw (get_or-map-range_with_len value 0 (count_of t) k k d (omega (arith, many, h)) (omega arith)) (fit k (omega (arith, many, h)));
+    } in
+    rw (take_at (frame_of t values) (drop (length (frame_of t values)) memory) (length_of t) (omega (arith, length-row value_length values, many)))
+    (carried_read t values carried)
+
+pub exact : Exact
+exact t row bytes = (
+  λ taken. let (carried, is) = taken_written t row bytes taken in (values_in (payload_of row), carried, is),
+  λ written. let (values, carried, is) = written in rw is (carried_read t values carried).taken,
+)
+
+pub said_one_way : SaidOneWay
+said_one_way t one two b c p q same =
+    (taken_written t one b p).1 ∙ ap (frame_of t) same ∙ sym (taken_written t two c q).1
+
+pub lengths : LengthsAreWithin
+lengths t = record {
+  least = omega (arith, some_values t);
+  most = omega (arith, few_values t);
+  shortest = λ first. rw first;
+  longest = λ nodes last. rw (nodes, last);
+}
+
+pub put_is_read : PutIsRead
+put_is_read index value payload h =
+    elim (cases_lt index (length payload / value_length)) [
+      | inl reaches ↦
+          let test : nat_lt index (length payload / value_length) ≡ true = lt-ltb index (length payload / value_length) reaches in
+          let front = take (value_length * index) payload ++ low_first value_length value in
+          let rest = drop (value_length * index + value_length) payload in
+          let kept : length (front ++ rest) ≡ length payload =
+          omega (
+            arith,
+            length-append front rest,
+            length-append (take (value_length * index) payload) (low_first value_length value),
+            length-take-le (value_length * index) payload (omega (arith, reaches)),
+            length-drop (value_length * index + value_length) payload,
+            reaches,
+          ) in
+          rw (test, kept) (number_put value_length (length payload / value_length) payload index value reaches (omega arith) h)
+      | inr past ↦
+          let test : nat_lt index (length payload / value_length) ≡ false = le-ltb index (length payload / value_length) past in
+          rw test (sym (set_past (values_in payload) index value (omega (arith, length-numbers_in value_length (length payload / value_length) payload, past))))
+    ]

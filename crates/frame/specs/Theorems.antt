@@ -1,0 +1,71 @@
+-- What is proved of frames. Each statement is demanded by the contract of a function of src/theorems.rt. Assumes nothing.
+use Rattle.std.specs.Prelude.{◌≡◌, ℕ, ◌+◌, ◌^◌, ◌<◌, ◌≤◌, ◌↔◌, List, length, take, slice_set, All, None}
+use Rattle.midpoint.specs.Refusals.{first_applying}
+use Rattle.frame.specs.Numbers.{Bytes}
+use Rattle.frame.specs.Layout.{place_of, count_of, length_of, told_round_of, header_of, frame_of, payload_of, values_in}
+use Rattle.frame.specs.Reading.{untaken}
+use Rattle.frame.specs.Writing.{first_values, with_frame, with_value}
+use Rattle.frame.specs.declared.turn.Turn.{Turn}
+
+-- values that a frame can carry: as many as its round asks, each below 2^32
+pub record Carried (t : Turn) (values : List ℕ) : Type 0 where
+  pub as_many : length values ≡ count_of t
+  pub fit : All (λ value. value < 2 ^ 32) values
+
+-- a frame that no check turns away
+abbrev pub Taken : Turn → List ℕ → Type 0
+Taken t frame = first_applying (untaken t frame) ≡ None
+
+-- Round trip: where a frame was written into memory, the front of it, as long as the frame, is taken, and has the values that were written.
+pub record ReadAs (t : Turn) (frame values : List ℕ) : Type 0 where
+  pub taken : Taken t frame
+  pub same_values : values_in (payload_of frame) ≡ values
+
+abbrev pub RoundTrip : Type 0
+RoundTrip =
+    (t : Turn) (value : ℕ → ℕ) (memory : List ℕ) → ((index : ℕ) → index < count_of t → value index < 2 ^ 32) →
+    ReadAs t (take (length_of t) (with_frame t value memory)) (first_values value (count_of t))
+
+-- Exactness: a row of bytes is taken if it is what writing gives for some values, and only then.
+abbrev pub Exact : Type 0
+Exact = (t : Turn) (row : List ℕ) → Bytes row → Taken t row ↔ ((values : List ℕ) × Carried t values × (row ≡ frame_of t values))
+
+-- So there are not two frames of a turn that say the same.
+abbrev pub SaidOneWay : Type 0
+SaidOneWay =
+    (t : Turn) (one two : List ℕ) → Bytes one → Bytes two → Taken t one → Taken t two → values_in (payload_of one) ≡ values_in (payload_of two) → one ≡ two
+
+-- What was written in one turn and is taken in another is of the same sender, and of the same round modulo 2^32: of the same round, if the two are less
+-- than 2^32 rounds apart.
+pub record SameTurn (t u : Turn) : Type 0 where
+  pub sender : t.sender ≡ u.sender
+  pub told_round : told_round_of t ≡ told_round_of u
+  pub round : t.round < u.round + 2 ^ 32 → u.round < t.round + 2 ^ 32 → t.round ≡ u.round
+
+abbrev pub TakenInItsTurn : Type 0
+TakenInItsTurn = (t u : Turn) (values : List ℕ) → Taken t (frame_of u values) → SameTurn t u
+
+-- The header tells the round modulo 2^32, and no more: 2^32 rounds later a node's header is the same again, and headers are the same only for one sender
+-- and for rounds that are equal modulo 2^32.
+pub record HeaderTells (t u : Turn) : Type 0 where
+  pub same_again : t.sender ≡ u.sender → t.round ≡ u.round + 2 ^ 32 → header_of t ≡ header_of u
+  pub no_other : header_of t ≡ header_of u → (t.sender ≡ u.sender) × (told_round_of t ≡ told_round_of u)
+
+abbrev pub HeaderTellsTheRound : Type 0
+HeaderTellsTheRound = (t u : Turn) → HeaderTells t u
+
+-- A frame has 9 bytes or more, and just 9 in a cycle's first round; it has at most 10,925, and so many in the last round of a cycle of 16 nodes that
+-- allow 3 faults.
+pub record Lengths (t : Turn) : Type 0 where
+  pub least : 9 ≤ length_of t
+  pub most : length_of t ≤ 10925
+  pub shortest : place_of t.cluster t.round ≡ 0 → length_of t ≡ 9
+  pub longest : t.cluster.nodes ≡ 16 → place_of t.cluster t.round ≡ 3 → length_of t ≡ 10925
+
+abbrev pub LengthsAreWithin : Type 0
+LengthsAreWithin = (t : Turn) → Lengths t
+
+-- A value that was put at an index is read there, and all others are as before.
+abbrev pub PutIsRead : Type 0
+PutIsRead =
+    (index value : ℕ) (payload : List ℕ) → value < 2 ^ 32 → values_in (with_value index value payload) ≡ slice_set (values_in payload) index value
