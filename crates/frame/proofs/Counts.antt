@@ -25,8 +25,8 @@ pub some : (n k : ℕ) → k < n → 1 ≤ paths_without_one n k
 some n zero h = omega arith
 some n (suc k) h = mul-le 1 1 (paths_without_one n k) (n - suc k) (some n k (omega arith)) (omega arith)
 
-pub one_longer : (n k : ℕ) → paths_without_one n k * (n - k - 1) ≡ paths_without_one n (k + 1)
-one_longer n k = let more : k + 1 ≡ suc k = omega arith in let left : n - k - 1 ≡ n - suc k = omega arith in rw (more, left)
+pub few_more : (n k : ℕ) → n ≤ 16 → k + 1 ≤ 3 → paths_without_one n k * (n - k - 1) ≤ 2730
+few_more n k l h = let left : n - k - 1 ≡ n - suc k = omega arith in rw left (few n (suc k) l (omega arith))
 
 -- so a frame carries few values, and at least one
 within_cycle : (t : Turn) → place_of t.cluster t.round ≤ t.cluster.faults

@@ -45,6 +45,7 @@ impl Turn {
 
     /// How many values the frame carries: one for each path of as many different nodes as the round's place says,
     /// the sender left out.
+    #[tactic(auto, using(crate::proofs::Counts::few_more, std::proofs::lemmas::Nat::mod_below))]
     pub fn count(&self) -> usize
         ensures { result ≡ count_of self.now }
     {
@@ -56,6 +57,7 @@ impl Turn {
     }
 
     /// How many bytes the frame has.
+    #[tactic(auto, using(crate::proofs::Counts::few_values))]
     pub fn length(&self) -> usize
         ensures { result ≡ length_of self.now }
     {
