@@ -11,6 +11,8 @@
 
 pub mod reading;
 pub mod refusal;
+#[cfg(test)]
+mod tests;
 pub mod theorems;
 pub mod turn;
 pub mod values;
