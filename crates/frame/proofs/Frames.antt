@@ -4,11 +4,13 @@ use Rattle.std.proofs.lemmas.Bool.{cases_lt, lt-ltb, le-ltb}
 use Rattle.std.proofs.lemmas.Bool.Decides.{nat_tests}
 use Rattle.std.proofs.lemmas.List.{drop_more, drop-drop, take-append-drop, length-take-le, length-drop, take_all, take_at, append-nil, length-append, set_past}
 use Rattle.std.proofs.lemmas.List.FromFn.{length-map-range_with_len, get_or-map-range_with_len}
+use Rattle.std.proofs.lemmas.Option.{none-some}
 use Rattle.frame.specs.Numbers.{low_first, numbers_in, Bytes}
 use Rattle.frame.specs.Layout.{value_length, told_round_of, count_of, length_of, header_of, bytes_of, frame_of, sender_in, round_in, payload_of, values_in}
 use Rattle.frame.specs.Writing.{first_values}
-use Rattle.frame.specs.Theorems.{Carried, Taken, ReadAs, RoundTrip, Exact, SaidOneWay, LengthsAreWithin, PutIsRead}
+use Rattle.frame.specs.Theorems.{Carried, Taken, ReadAs, RoundTrip, ReceivedWhole, Exact, SaidOneWay, LengthsAreWithin, PutIsRead}
 use Rattle.frame.specs.declared.turn.Turn.{Turn}
+use Rattle.frame.specs.declared.reading.Reception.TheVariants.{Whole, TurnedAway}
 use Rattle.frame.proofs.Counts.{few_values, some_values}
 use Rattle.frame.proofs.Bytes.{length-row, number_written, numbers_written, bytes_read, take_bytes, drop_bytes, row_read, numbers_fit, length-numbers_in, number_put}
 
@@ -84,6 +86,10 @@ round_trip t value memory fit =
     } in
     rw (take_at (frame_of t values) (drop (length (frame_of t values)) memory) (length_of t) (omega (arith, length-row value_length values, many)))
     (carried_read t values carried)
+
+pub received_whole : ReceivedWhole
+received_whole t values deviation (Whole ahead payload) carried (taken, same, part) = (same, ap values_in part ∙ (carried_read t values carried).same_values)
+received_whole t values deviation (TurnedAway refusal) carried refused = none-some refusal (sym (carried_read t values carried).taken ∙ refused)
 
 pub exact : Exact
 exact t row bytes = (

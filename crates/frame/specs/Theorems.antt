@@ -1,11 +1,13 @@
 -- What is proved of frames. Each statement is demanded by the contract of a function of src/theorems.rt. Assumes nothing.
-use Rattle.std.specs.Prelude.{◌≡◌, ℕ, ◌+◌, ◌^◌, ◌<◌, ◌≤◌, ◌↔◌, List, length, take, slice_set, All, None}
+use Rattle.std.specs.Prelude.{◌≡◌, ℕ, ℤ, ◌+◌, ◌^◌, ◌<◌, ◌≤◌, ◌↔◌, List, length, take, slice_set, All, None}
 use Rattle.midpoint.specs.Refusals.{first_applying}
 use Rattle.frame.specs.Numbers.{Bytes}
 use Rattle.frame.specs.Layout.{place_of, count_of, length_of, told_round_of, header_of, frame_of, payload_of, values_in}
-use Rattle.frame.specs.Reading.{untaken}
+use Rattle.frame.specs.Reading.{untaken, Receives}
 use Rattle.frame.specs.Writing.{first_values, with_frame, with_value}
 use Rattle.frame.specs.declared.turn.Turn.{Turn}
+use Rattle.frame.specs.declared.reading.Reception.{Reception}
+use Rattle.frame.specs.declared.reading.Reception.TheVariants.{Whole, TurnedAway}
 
 -- values that a frame can carry: as many as its round asks, each below 2^32
 pub record Carried (t : Turn) (values : List ℕ) : Type 0 where
@@ -25,6 +27,16 @@ abbrev pub RoundTrip : Type 0
 RoundTrip =
     (t : Turn) (value : ℕ → ℕ) (memory : List ℕ) → ((index : ℕ) → index < count_of t → value index < 2 ^ 32) →
     ReadAs t (take (length_of t) (with_frame t value memory)) (first_values value (count_of t))
+
+-- So what was written for values and heard in its turn is never turned away: it is received whole, with its deviation and these values.
+abbrev pub WholeWith : ℤ → List ℕ → Reception → Type 0
+WholeWith deviation values (Whole ahead payload) = (ahead ≡ deviation) × (values_in payload.now ≡ values)
+WholeWith deviation values (TurnedAway refusal) = ⊥
+
+abbrev pub ReceivedWhole : Type 0
+ReceivedWhole =
+    (t : Turn) (values : List ℕ) (deviation : ℤ) (reception : Reception) → Carried t values → Receives t deviation (frame_of t values) reception →
+    WholeWith deviation values reception
 
 -- Exactness: a row of bytes is taken if it is what writing gives for some values, and only then.
 abbrev pub Exact : Type 0

@@ -57,6 +57,9 @@ fn turned_away(rt: &impl Abort, turn: Turn, frame: &[u8], why: Refusal) {
 
 #[test]
 fn bytes_of_frames(rt: HostRuntime) -> Result<(), Fail> {
+    says(&rt, four(2, 6)?, &[7], &[2, 6, 0, 0, 0, 7, 0, 0, 0])?;
+    let bytes = [2, 7, 0, 0, 0, 5, 0, 0, 0, 6, 0, 0, 0, 8, 0, 0, 0];
+    says(&rt, four(2, 7)?, &[5, 6, 8], &bytes)?;
     let bytes = [2, 6, 0, 0, 0, 4, 3, 2, 1];
     says(&rt, four(2, 6)?, &[0x01020304], &bytes)?;
     let bytes = [255, 0x0E, 0x0C, 0x0B, 0x0A, 4, 3, 2, 1];

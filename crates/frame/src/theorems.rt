@@ -1,10 +1,15 @@
 //! The theorems of this crate. Each function's contract is one statement of `specs/Theorems.antt`, so that the
 //! crate is not proved without it; what the function does is nothing.
-ghost use Rattle.frame.specs.Theorems.{RoundTrip, Exact, SaidOneWay, TakenInItsTurn, HeaderTellsTheRound, LengthsAreWithin, PutIsRead};
+ghost use Rattle.frame.specs.Theorems.{RoundTrip, ReceivedWhole, Exact, SaidOneWay, TakenInItsTurn, HeaderTellsTheRound, LengthsAreWithin, PutIsRead};
 
 /// What is written is taken in its turn, and has the values that were written.
 pub fn what_is_written_is_read()
     ensures { RoundTrip }
+{}
+
+/// What is written and heard in its turn is received whole, with the values that were written.
+pub fn what_is_written_is_received()
+    ensures { ReceivedWhole }
 {}
 
 /// A row of bytes is taken if and only if it is what writing gives for some values.
