@@ -1,7 +1,7 @@
 -- How many values a frame carries. Assumes nothing.
 use Rattle.std.proofs.Common.{◌≡◌, ℕ, zero, suc, ◌+◌, ◌-◌, ◌*◌, ◌≤◌, ◌<◌, arith}
 use Rattle.std.proofs.lemmas.Nat.{mul-le, mod_below}
-use Rattle.frame.specs.Layout.{paths_without_one, place_of, count_of}
+use Rattle.frame.specs.Layout.{paths_without_one, place_in_cycle, value_count_of}
 use Rattle.frame.specs.declared.turn.Turn.{Turn}
 
 -- more nodes have no fewer paths
@@ -29,11 +29,11 @@ pub few_more : (n k : ℕ) → n ≤ 16 → k + 1 ≤ 3 → paths_without_one n 
 few_more n k l h = let left : n - k - 1 ≡ n - suc k = omega arith in rw left (few n (suc k) l (omega arith))
 
 -- so a frame carries few values, and at least one
-within_cycle : (t : Turn) → place_of t.cluster t.round ≤ t.cluster.faults
+pub within_cycle : (t : Turn) → place_in_cycle t.cluster t.round ≤ t.cluster.faults
 within_cycle t = omega (arith, mod_below t.round (t.cluster.faults + 1) (omega arith))
 
-pub few_values : (t : Turn) → count_of t ≤ 2730
-few_values t = few t.cluster.nodes (place_of t.cluster t.round) t.cluster.most (omega (arith, within_cycle t, t.cluster.few))
+pub few_values : (t : Turn) → value_count_of t ≤ 2730
+few_values t = few t.cluster.nodes (place_in_cycle t.cluster t.round) t.cluster.most (omega (arith, within_cycle t, t.cluster.few))
 
-pub some_values : (t : Turn) → 1 ≤ count_of t
-some_values t = some t.cluster.nodes (place_of t.cluster t.round) (omega (arith, within_cycle t, t.cluster.tolerated, t.cluster.enough))
+pub some_values : (t : Turn) → 1 ≤ value_count_of t
+some_values t = some t.cluster.nodes (place_in_cycle t.cluster t.round) (omega (arith, within_cycle t, t.cluster.tolerated, t.cluster.enough))

@@ -1,24 +1,24 @@
 -- What is proved of frames. Assumes nothing.
-use Rattle.std.proofs.Common.{◌≡◌, ℕ, ◌+◌, ◌*◌, ◌/◌, ◌%◌, ◌^◌, ◌≤◌, ◌<◌, List, [], ◌∷◌, ◌++◌, length, take, drop, nat_lt, true, false, All, inl, inr, sym, refl, ap, ◌∙◌, arith}
+use Rattle.std.proofs.Common.{◌≡◌, ℕ, ◌+◌, ◌*◌, ◌/◌, ◌^◌, ◌≤◌, ◌<◌, List, [], ◌∷◌, ◌++◌, length, take, drop, nat_lt, true, false, All, inl, inr, sym, refl, ap, ◌∙◌, arith}
 use Rattle.std.proofs.lemmas.Bool.{cases_lt, lt-ltb, le-ltb}
 use Rattle.std.proofs.lemmas.Bool.Decides.{nat_tests}
 use Rattle.std.proofs.lemmas.List.{drop_more, drop-drop, take-append-drop, length-take-le, length-drop, take_all, take_at, append-nil, length-append, set_past}
 use Rattle.std.proofs.lemmas.List.FromFn.{length-map-range_with_len, get_or-map-range_with_len}
 use Rattle.std.proofs.lemmas.Option.{none-some}
 use Rattle.frame.specs.Numbers.{low_first, numbers_in, Bytes}
-use Rattle.frame.specs.Layout.{value_length, told_round_of, count_of, length_of, header_of, bytes_of, frame_of, sender_in, round_in, payload_of, values_in}
+use Rattle.frame.specs.Layout.{value_length, header_round_of, value_count_of, frame_length_of, header_of, bytes_of, frame_of, sender_in, round_in, payload_of, values_in}
 use Rattle.frame.specs.Writing.{first_values}
-use Rattle.frame.specs.Theorems.{Carried, Taken, ReadAs, RoundTrip, ReceivedWhole, Exact, SaidOneWay, LengthsAreWithin, PutIsRead}
+use Rattle.frame.specs.Theorems.{Carried, Fits, written_frame, Taken, RoundTrip, ReceivedWhole, Exact, SaidOneWay, LengthsAreWithin, PutIsRead}
 use Rattle.frame.specs.declared.turn.Turn.{Turn}
 use Rattle.frame.specs.declared.reading.Reception.TheVariants.{Whole, TurnedAway}
-use Rattle.frame.proofs.Counts.{few_values, some_values}
+use Rattle.frame.proofs.Counts.{within_cycle, few_values, some_values}
 use Rattle.frame.proofs.Bytes.{length-row, number_written, numbers_written, bytes_read, take_bytes, drop_bytes, row_read, numbers_fit, length-numbers_in, number_put}
 
 -- what the checks say of a frame that they take
 pub record Passed (t : Turn) (row : List ℕ) : Type 0 where
-  pub length_is : length row ≡ length_of t
+  pub length_is : length row ≡ frame_length_of t
   pub sender_is : sender_in row ≡ t.sender
-  pub round_is : round_in row ≡ told_round_of t
+  pub round_is : round_in row ≡ header_round_of t
 
 passed : (t : Turn) (row : List ℕ) → Taken t row → Passed t row
 passed t row taken = grind (arith, nat_tests)
@@ -48,53 +48,60 @@ row_is row bytes h =
     let rest : take 4 (drop 1 row) ++ payload_of row ≡ drop 1 row = ap (λ t. take 4 (drop 1 row) ++ t) (sym (drop-drop 4 1 row)) ∙ take-append-drop 4 (drop 1 row) in
     drop_more row 0 0 (omega arith) ∙ ap (λ t. sender_in row ∷ t) (sym rest ∙ ap (λ t. t ++ payload_of row) (sym round))
 
--- a frame that was written for values is taken, and has them
-pub carried_read : (t : Turn) (values : List ℕ) → Carried t values → ReadAs t (frame_of t values) values
-carried_read t values carried = record {
-  taken =
-      taken_from t (frame_of t values)
-      (record {
-        length_is = omega (arith, length-row value_length values, carried.as_many);
-        sender_is = refl;
-        round_is = number_written 4 (t.round % 2 ^ 32) (omega arith);
-      });
-  same_values = values_written values carried.fit;
-}
+-- a frame of values that it can carry is taken
+frame_taken : (t : Turn) (values : List ℕ) → Carried t values → Taken t (frame_of t values)
+frame_taken t values carried =
+    taken_from t (frame_of t values)
+    (record {
+      length_is = omega (arith, length-row value_length values, carried.as_many);
+      sender_is = refl;
+      round_is = number_written 4 (header_round_of t) (omega arith);
+    })
 
 -- what is taken was written for the values that it has
 pub taken_written : (t : Turn) (row : List ℕ) → Bytes row → Taken t row → Carried t (values_in (payload_of row)) × (row ≡ frame_of t (values_in (payload_of row)))
 taken_written t row bytes taken =
     let p = passed t row taken in
-    let long : length (payload_of row) ≡ value_length * count_of t = omega (arith, length-drop 5 row, p.length_is) in
-    let many : length (payload_of row) / value_length ≡ count_of t = omega (arith, long) in
+    let long : length (payload_of row) ≡ value_length * value_count_of t = omega (arith, length-drop 5 row, p.length_is) in
+    let many : length (payload_of row) / value_length ≡ value_count_of t = omega (arith, long) in
     let behind = drop_bytes 5 row bytes in (
       record {
         as_many = length-numbers_in value_length (length (payload_of row) / value_length) (payload_of row) ∙ many;
         fit = numbers_fit value_length (length (payload_of row) / value_length) (payload_of row) behind (omega arith);
       },
       row_is row bytes (omega (arith, p.length_is))
-          ∙ rw (p.sender_is, p.round_is) (ap (λ payload. header_of t ++ payload) (sym (payload_read (payload_of row) (count_of t) behind long))),
+          ∙ rw (p.sender_is, p.round_is) (ap (λ payload. header_of t ++ payload) (sym (payload_read (payload_of row) (value_count_of t) behind long))),
     )
+
+-- values that are given by their index, as a list
+carried_values : (t : Turn) (value : ℕ → ℕ) → Fits t value → Carried t (first_values value (value_count_of t))
+carried_values t value fit =
+    let many : length (first_values value (value_count_of t)) ≡ value_count_of t = length-map-range_with_len value 0 (value_count_of t) in record {
+      as_many = many;
+      fit = λ k d h. rw (get_or-map-range_with_len value 0 (value_count_of t) k k d (omega (arith, many, h)) (omega arith)) (fit k (omega (arith, many, h)));
+    }
 
 pub round_trip : RoundTrip
 round_trip t value memory fit =
-    let values = first_values value (count_of t) in
-    let many : length values ≡ count_of t = length-map-range_with_len value 0 (count_of t) in
-    let carried : Carried t values = record {
-      as_many = many;
-      fit = λ k d h. rw (get_or-map-range_with_len value 0 (count_of t) k k d (omega (arith, many, h)) (omega arith)) (fit k (omega (arith, many, h)));
-    } in
-    rw (take_at (frame_of t values) (drop (length (frame_of t values)) memory) (length_of t) (omega (arith, length-row value_length values, many)))
-    (carried_read t values carried)
+    let values = first_values value (value_count_of t) in
+    let carried = carried_values t value fit in
+    let front : written_frame t value memory ≡ frame_of t values =
+    take_at (frame_of t values) (drop (length (frame_of t values)) memory) (frame_length_of t) (omega (arith, length-row value_length values, carried.as_many)) in
+    record {
+      carried = carried;
+      written = front;
+      taken = rw front (frame_taken t values carried);
+      same_values = rw front (values_written values carried.fit);
+    }
 
 pub received_whole : ReceivedWhole
-received_whole t values deviation (Whole ahead payload) carried (taken, same, part) = (same, ap values_in part ∙ (carried_read t values carried).same_values)
-received_whole t values deviation (TurnedAway refusal) carried refused = none-some refusal (sym (carried_read t values carried).taken ∙ refused)
+received_whole t value memory deviation (Whole ahead payload) fit (taken, same, rest) = (same, ap values_in rest ∙ (round_trip t value memory fit).same_values)
+received_whole t value memory deviation (TurnedAway refusal) fit refused = none-some refusal (sym (round_trip t value memory fit).taken ∙ refused)
 
 pub exact : Exact
 exact t row bytes = (
   λ taken. let (carried, is) = taken_written t row bytes taken in (values_in (payload_of row), carried, is),
-  λ written. let (values, carried, is) = written in rw is (carried_read t values carried).taken,
+  λ written. let (values, carried, is) = written in rw is (frame_taken t values carried),
 )
 
 pub said_one_way : SaidOneWay
@@ -103,9 +110,13 @@ said_one_way t one two b c p q same =
 
 pub lengths : LengthsAreWithin
 lengths t = record {
+  first = λ first. rw first refl;
+  second = λ second. rw second (omega arith);
+  third = λ third. rw third (omega arith);
+  fourth = λ fourth. rw fourth (omega arith);
+  within = omega (arith, within_cycle t, t.cluster.few);
   least = omega (arith, some_values t);
   most = omega (arith, few_values t);
-  shortest = λ first. rw first;
   longest = λ nodes last. rw (nodes, last);
 }
 

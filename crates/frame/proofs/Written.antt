@@ -13,7 +13,7 @@ use Rattle.frame.proofs.Bytes.{length-row}
 pub length-values : (value : ℕ → ℕ) (count : ℕ) → length (bytes_of (first_values value count)) ≡ value_length * count
 length-values value count = length-row value_length (first_values value count) ∙ ap (λ n. value_length * n) (length-map-range_with_len value 0 count)
 
--- a header, and a payload behind it that a payload has filled
+-- a header, and behind it a payload that values have filled
 pub framed : (value : ℕ → ℕ) (header memory payload : List ℕ) (n m count : ℕ) → length header ≡ n → m ≡ n + value_length * count → m ≤ length memory →
     payload ≡ filled value (take (m - n) (drop n (header ++ drop n memory))) →
     put_mid n (m - n) (header ++ drop n memory) payload ≡ written_over (header ++ bytes_of (first_values value count)) memory
@@ -29,7 +29,7 @@ framed value header memory payload n m count h e l p =
     let rest : drop (m - n) (drop n memory) ≡ drop m memory = drop-drop (m - n) n memory ∙ ap (λ k. drop k memory) (omega arith) in
     rw (is, behind, take_at header (drop n memory) n h, rest, whole) (sym (append_assoc header row (drop m memory)))
 
--- one value more
+-- a payload that is being filled, one value more: the step of every loop that fills one
 pub filled_more : (value : ℕ → ℕ) (index : ℕ) (old payload : List ℕ) → index < length old / value_length →
     payload ≡ written_over (bytes_of (first_values value index)) old →
     with_value index (value index) payload ≡ written_over (bytes_of (first_values value (index + 1))) old

@@ -1,48 +1,56 @@
 -- What is proved of frames. Each statement is demanded by the contract of a function of src/theorems.rt. Assumes nothing.
-use Rattle.std.specs.Prelude.{◌≡◌, ℕ, ℤ, ◌+◌, ◌^◌, ◌<◌, ◌≤◌, ◌↔◌, List, length, take, slice_set, All, None}
+use Rattle.std.specs.Prelude.{◌≡◌, ℕ, ℤ, ◌+◌, ◌-◌, ◌*◌, ◌^◌, ◌<◌, ◌≤◌, ◌↔◌, List, length, take, slice_set, All, None}
 use Rattle.midpoint.specs.Refusals.{first_applying}
 use Rattle.frame.specs.Numbers.{Bytes}
-use Rattle.frame.specs.Layout.{place_of, count_of, length_of, told_round_of, header_of, frame_of, payload_of, values_in}
+use Rattle.frame.specs.Layout.{place_in_cycle, value_count_of, frame_length_of, header_round_of, header_of, frame_of, payload_of, values_in}
 use Rattle.frame.specs.Reading.{untaken, Receives}
 use Rattle.frame.specs.Writing.{first_values, with_frame, with_value}
 use Rattle.frame.specs.declared.turn.Turn.{Turn}
+use Rattle.frame.specs.declared.turn.TheConstants.{MAX_FRAME_LENGTH}
 use Rattle.frame.specs.declared.reading.Reception.{Reception}
 use Rattle.frame.specs.declared.reading.Reception.TheVariants.{Whole, TurnedAway}
 
 -- values that a frame can carry: as many as its round asks, each below 2^32
 pub record Carried (t : Turn) (values : List ℕ) : Type 0 where
-  pub as_many : length values ≡ count_of t
+  pub as_many : length values ≡ value_count_of t
   pub fit : All (λ value. value < 2 ^ 32) values
+
+-- and such values where they are given by their index
+abbrev pub Fits : Turn → (ℕ → ℕ) → Type 0
+Fits t value = (index : ℕ) → index < value_count_of t → value index < 2 ^ 32
 
 -- a frame that no check turns away
 abbrev pub Taken : Turn → List ℕ → Type 0
 Taken t frame = first_applying (untaken t frame) ≡ None
 
--- Round trip: where a frame was written into memory, the front of it, as long as the frame, is taken, and has the values that were written.
+-- Round trip: where a frame was written into memory, the front of it, as long as the frame, is the frame of these values; it is taken, and has them.
 pub record ReadAs (t : Turn) (frame values : List ℕ) : Type 0 where
+  pub carried : Carried t values
+  pub written : frame ≡ frame_of t values
   pub taken : Taken t frame
   pub same_values : values_in (payload_of frame) ≡ values
 
-abbrev pub RoundTrip : Type 0
-RoundTrip =
-    (t : Turn) (value : ℕ → ℕ) (memory : List ℕ) → ((index : ℕ) → index < count_of t → value index < 2 ^ 32) →
-    ReadAs t (take (length_of t) (with_frame t value memory)) (first_values value (count_of t))
+abbrev pub written_frame : Turn → (ℕ → ℕ) → List ℕ → List ℕ
+written_frame t value memory = take (frame_length_of t) (with_frame t value memory)
 
--- So what was written for values and heard in its turn is never turned away: it is received whole, with its deviation and these values.
+abbrev pub RoundTrip : Type 0
+RoundTrip = (t : Turn) (value : ℕ → ℕ) (memory : List ℕ) → Fits t value → ReadAs t (written_frame t value memory) (first_values value (value_count_of t))
+
+-- So what was written and is heard in its turn is never turned away: it is received whole, with its deviation and the values that were written.
 abbrev pub WholeWith : ℤ → List ℕ → Reception → Type 0
 WholeWith deviation values (Whole ahead payload) = (ahead ≡ deviation) × (values_in payload.now ≡ values)
 WholeWith deviation values (TurnedAway refusal) = ⊥
 
 abbrev pub ReceivedWhole : Type 0
 ReceivedWhole =
-    (t : Turn) (values : List ℕ) (deviation : ℤ) (reception : Reception) → Carried t values → Receives t deviation (frame_of t values) reception →
-    WholeWith deviation values reception
+    (t : Turn) (value : ℕ → ℕ) (memory : List ℕ) (deviation : ℤ) (reception : Reception) → Fits t value →
+    Receives t deviation (written_frame t value memory) reception → WholeWith deviation (first_values value (value_count_of t)) reception
 
 -- Exactness: a row of bytes is taken if it is what writing gives for some values, and only then.
 abbrev pub Exact : Type 0
 Exact = (t : Turn) (row : List ℕ) → Bytes row → Taken t row ↔ ((values : List ℕ) × Carried t values × (row ≡ frame_of t values))
 
--- So there are not two frames of a turn that say the same.
+-- So no two frames of a turn say the same.
 abbrev pub SaidOneWay : Type 0
 SaidOneWay =
     (t : Turn) (one two : List ℕ) → Bytes one → Bytes two → Taken t one → Taken t two → values_in (payload_of one) ≡ values_in (payload_of two) → one ≡ two
@@ -51,28 +59,32 @@ SaidOneWay =
 -- than 2^32 rounds apart.
 pub record SameTurn (t u : Turn) : Type 0 where
   pub sender : t.sender ≡ u.sender
-  pub told_round : told_round_of t ≡ told_round_of u
+  pub told_round : header_round_of t ≡ header_round_of u
   pub round : t.round < u.round + 2 ^ 32 → u.round < t.round + 2 ^ 32 → t.round ≡ u.round
 
 abbrev pub TakenInItsTurn : Type 0
 TakenInItsTurn = (t u : Turn) (values : List ℕ) → Taken t (frame_of u values) → SameTurn t u
 
--- The header tells the round modulo 2^32, and no more: 2^32 rounds later a node's header is the same again, and headers are the same only for one sender
--- and for rounds that are equal modulo 2^32.
+-- The header tells the sender, and the round modulo 2^32, and no more: it is the same for the same sender and rounds that are equal modulo 2^32, and only
+-- then. So it is the same again 2^32 rounds later.
 pub record HeaderTells (t u : Turn) : Type 0 where
-  pub same_again : t.sender ≡ u.sender → t.round ≡ u.round + 2 ^ 32 → header_of t ≡ header_of u
-  pub no_other : header_of t ≡ header_of u → (t.sender ≡ u.sender) × (told_round_of t ≡ told_round_of u)
+  pub same : header_of t ≡ header_of u ↔ ((t.sender ≡ u.sender) × (header_round_of t ≡ header_round_of u))
+  pub again : t.sender ≡ u.sender → t.round ≡ u.round + 2 ^ 32 → header_of t ≡ header_of u
 
 abbrev pub HeaderTellsTheRound : Type 0
 HeaderTellsTheRound = (t u : Turn) → HeaderTells t u
 
--- A frame has 9 bytes or more, and just 9 in a cycle's first round; it has at most 10,925, and so many in the last round of a cycle of 16 nodes that
--- allow 3 faults.
+-- In a cycle's first round a frame carries one value, and in the next ones n - 1, (n - 1)(n - 2) and (n - 1)(n - 2)(n - 3), where n is the number of
+-- nodes. So it has 9 bytes or more, and at most 10,925: those of the last round of a cycle of 16 nodes that allow 3 faults.
 pub record Lengths (t : Turn) : Type 0 where
-  pub least : 9 ≤ length_of t
-  pub most : length_of t ≤ 10925
-  pub shortest : place_of t.cluster t.round ≡ 0 → length_of t ≡ 9
-  pub longest : t.cluster.nodes ≡ 16 → place_of t.cluster t.round ≡ 3 → length_of t ≡ 10925
+  pub first : place_in_cycle t.cluster t.round ≡ 0 → value_count_of t ≡ 1
+  pub second : place_in_cycle t.cluster t.round ≡ 1 → value_count_of t ≡ t.cluster.nodes - 1
+  pub third : place_in_cycle t.cluster t.round ≡ 2 → value_count_of t ≡ (t.cluster.nodes - 1) * (t.cluster.nodes - 2)
+  pub fourth : place_in_cycle t.cluster t.round ≡ 3 → value_count_of t ≡ (t.cluster.nodes - 1) * (t.cluster.nodes - 2) * (t.cluster.nodes - 3)
+  pub within : place_in_cycle t.cluster t.round ≤ 3
+  pub least : 9 ≤ frame_length_of t
+  pub most : frame_length_of t ≤ MAX_FRAME_LENGTH
+  pub longest : t.cluster.nodes ≡ 16 → place_in_cycle t.cluster t.round ≡ 3 → frame_length_of t ≡ MAX_FRAME_LENGTH
 
 abbrev pub LengthsAreWithin : Type 0
 LengthsAreWithin = (t : Turn) → Lengths t

@@ -20,6 +20,6 @@ pub mod writing;
 
 pub use reading::Reception;
 pub use refusal::Refusal;
-pub use turn::{HEADER_LENGTH, Turn, VALUE_LENGTH};
+pub use turn::{HEADER_LENGTH, MAX_FRAME_LENGTH, Turn, VALUE_LENGTH};
 pub use values::{put_value, value};
 pub use writing::Values;

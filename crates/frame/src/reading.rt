@@ -2,15 +2,15 @@
 ghost use Rattle.std.specs.Prelude.{◌≡◌, ◌≤◌, length};
 ghost use Rattle.midpoint.specs.Refusals.{ByRows};
 ghost use Rattle.frame.specs.Layout.{header_length, round_in, payload_of};
-ghost use Rattle.frame.specs.Reading.{untaken, Receives, number_of_case};
+ghost use Rattle.frame.specs.Reading.{untaken, Receives, code_of_reception};
 
 use crate::refusal::Refusal;
 use crate::turn::{HEADER_LENGTH, Turn};
 use midpoint::Code;
 use schedule::Received;
 
-/// A frame that came in its slot: heard whole, or turned away. Who turns a frame away goes on as if nothing had
-/// come.
+/// A frame that came in its slot: heard whole, or turned away. A node that turns it away goes on as if nothing
+/// had come.
 #[derive(Clone, Copy, PartialEq, Eq, Debug)]
 pub enum Reception<'a> {
     /// How far it shows its sender's clock to be ahead, and its payload.
@@ -22,7 +22,7 @@ pub enum Reception<'a> {
 impl Reception<'_> {
     /// Its number and place in the fixed list, if it is turned away.
     pub fn code(&self) -> Option<Code>
-        ensures { result ≡ number_of_case self.now }
+        ensures { result ≡ code_of_reception self.now }
     {
         match self {
             Reception::Whole { .. } => None,
@@ -37,7 +37,7 @@ impl Turn {
     pub fn read<'a>(&self, frame: &'a [u8]) -> Result<&'a [u8], Refusal>
         ensures { ByRows (untaken self.now frame.now) (λ e. e) (λ payload. payload.now ≡ payload_of frame.now) result }
     {
-        if frame.len() != self.length() {
+        if frame.len() != self.frame_length() {
             return Err(Refusal::Length {
                 length: frame.len(),
             });
@@ -45,7 +45,7 @@ impl Turn {
         if frame[0] != self.sender {
             return Err(Refusal::Sender);
         }
-        if told_round(frame) != self.told_round() {
+        if round_in(frame) != self.header_round() {
             return Err(Refusal::Round);
         }
         Ok(&frame[HEADER_LENGTH..])
@@ -66,7 +66,7 @@ impl Turn {
 }
 
 // The round that the header of a frame tells.
-fn told_round(frame: &[u8]) -> u32
+fn round_in(frame: &[u8]) -> u32
     requires { header_length ≤ length frame.now }
     ensures { result ≡ round_in frame.now }
 {

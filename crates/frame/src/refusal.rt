@@ -7,7 +7,8 @@ use midpoint::Code;
 /// Why a frame is not taken: the first that applies, in this order.
 #[derive(Clone, Copy, PartialEq, Eq, Debug)]
 pub enum Refusal {
-    /// It is shorter or longer than its round asks, or the memory for it is too short.
+    /// It is shorter or longer than its round asks, or the memory for it is too short. The length is that of the
+    /// frame, or of the memory.
     Length { length: usize },
     /// Its sender is not the node whose slot it is.
     Sender,

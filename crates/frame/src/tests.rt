@@ -3,6 +3,7 @@ use crate::reading::Reception;
 use crate::refusal::Refusal;
 use crate::turn::Turn;
 use crate::values::{put_value, value};
+use crate::writing::Values;
 use clock::Cluster;
 use midpoint::Code;
 use schedule::{Received, Schedule};
@@ -131,9 +132,9 @@ fn lengths(rt: HostRuntime) -> Result<(), Fail> {
         (16, 3, LARGEST, 3, 2730, 10_925),
     ] {
         let turn = turn_of(nodes, faults, 0, round)?;
-        assert_eq!(rt; turn.place(), place);
-        assert_eq!(rt; turn.count(), count);
-        assert_eq!(rt; turn.length(), length);
+        assert_eq!(rt; turn.place_in_cycle(), place);
+        assert_eq!(rt; turn.value_count(), count);
+        assert_eq!(rt; turn.frame_length(), length);
     }
     Ok(())
 }
@@ -227,17 +228,59 @@ fn codes(rt: HostRuntime) {
 
 #[test]
 fn heard_whole(rt: HostRuntime) -> Result<(), Fail> {
-    for deviation in [0, 112, -120, i64::MIN] {
-        let received = Received {
+    let even = [2, 6, 0, 0, 0, 4, 3, 2, 1];
+    let odd = [2, 7, 0, 0, 0, 4, 3, 2, 1, 8, 7, 6, 5, 12, 11, 10, 9];
+    for (deviation, round, frame) in [
+        (0, 6, even.as_slice()),
+        (112, 7, &odd),
+        (-120, 7, &odd),
+        (i64::MIN, 6, &even),
+    ] {
+        let reception = four(2, round)?.receive(Received {
             deviation,
-            message: [2, 6, 0, 0, 0, 4, 3, 2, 1].as_slice(),
-        };
-        let reception = four(2, 6)?.receive(received);
-        let payload = &[4, 3, 2, 1];
+            message: frame,
+        });
+        let payload = &frame[5..];
         assert_eq!(rt; reception, Reception::Whole { deviation, payload });
         assert_eq!(rt; reception.code(), None);
     }
     Ok(())
+}
+
+// A frame that a header and a number of values make up, as a faulty node may send it. Three values are asked.
+#[test]
+fn other_number_of_values(rt: HostRuntime) -> Result<(), Fail> {
+    let turn = four(2, 7)?;
+    let values = [5, 6, 8, 9].as_slice();
+    for (count, answer) in [
+        (0, Err(of_length(5))),
+        (2, Err(of_length(13))),
+        (3, Ok([5, 0, 0, 0, 6, 0, 0, 0, 8, 0, 0, 0].as_slice())),
+        (4, Err(of_length(21))),
+    ] {
+        let mut memory = [0; 21];
+        memory[..5].copy_from_slice(&turn.header());
+        values.fill(&mut memory[5..5 + 4 * count]);
+        assert_eq!(rt; turn.read(&memory[..5 + 4 * count]), answer);
+    }
+    Ok(())
+}
+
+// Bytes at the end of a payload that are too few for a value stay as they were.
+#[test]
+fn payloads_filled(rt: HostRuntime) {
+    for (length, filled) in [
+        (0, [9, 9, 9, 9, 9, 9, 9, 9, 9, 9, 9]),
+        (3, [9, 9, 9, 9, 9, 9, 9, 9, 9, 9, 9]),
+        (4, [1, 0, 0, 0, 9, 9, 9, 9, 9, 9, 9]),
+        (7, [1, 0, 0, 0, 9, 9, 9, 9, 9, 9, 9]),
+        (8, [1, 0, 0, 0, 2, 0, 0, 0, 9, 9, 9]),
+        (11, [1, 0, 0, 0, 2, 0, 0, 0, 9, 9, 9]),
+    ] {
+        let mut row = [9; 11];
+        [1, 2].as_slice().fill(&mut row[..length]);
+        assert_eq!(rt; row, filled);
+    }
 }
 
 #[test]
@@ -342,6 +385,7 @@ fn longest_frame(rt: HostRuntime) -> Result<(), Fail> {
         turn.write(values.as_slice(), &mut memory[..10_924]),
         Err(of_length(10_924))
     );
+    assert!(rt; memory == [0xEE; 10_925]);
     assert_eq!(rt; turn.write(values.as_slice(), &mut memory), Ok(10_925));
     let payload = turn.read(&memory)?;
     for (index, number) in [

@@ -1,6 +1,7 @@
 //! The theorems of this crate. Each function's contract is one statement of `specs/Theorems.antt`, so that the
 //! crate is not proved without it; what the function does is nothing.
-ghost use Rattle.frame.specs.Theorems.{RoundTrip, ReceivedWhole, Exact, SaidOneWay, TakenInItsTurn, HeaderTellsTheRound, LengthsAreWithin, PutIsRead};
+ghost use Rattle.frame.specs.Theorems.{RoundTrip, ReceivedWhole, Exact, SaidOneWay};
+ghost use Rattle.frame.specs.Theorems.{TakenInItsTurn, HeaderTellsTheRound, LengthsAreWithin, PutIsRead};
 
 /// What is written is taken in its turn, and has the values that were written.
 pub fn what_is_written_is_read()
@@ -17,7 +18,7 @@ pub fn only_what_is_written_is_taken()
     ensures { Exact }
 {}
 
-/// There are not two frames of a turn with the same values.
+/// No two frames of a turn have the same values.
 pub fn values_are_said_one_way()
     ensures { SaidOneWay }
 {}
@@ -32,7 +33,7 @@ pub fn header_tells_the_round()
     ensures { HeaderTellsTheRound }
 {}
 
-/// A frame has 9 bytes at least, and 10,925 at most.
+/// How many values a frame carries, and that it has 9 bytes at least, and 10,925 at most.
 pub fn lengths_are_within()
     ensures { LengthsAreWithin }
 {}

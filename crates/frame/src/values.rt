@@ -1,7 +1,7 @@
 //! Values in a frame's payload, read and put by index.
-ghost use Rattle.std.specs.Prelude.{◌≡◌, ◌*◌, ◌/◌, ◌<◌, ◌≤◌, length, slice_get, slice_index, nat_lt, MatchOption};
+ghost use Rattle.std.specs.Prelude.{◌≡◌, ◌/◌, ◌≤◌, length, slice_get, slice_index, nat_lt, MatchOption};
 ghost use Rattle.frame.specs.Layout.{values_in, value_length};
-ghost use Rattle.frame.specs.Writing.{with_value};
+ghost use Rattle.frame.specs.Writing.{StartsAt, with_value};
 
 use crate::turn::VALUE_LENGTH;
 use crate::writing::Values;
@@ -35,7 +35,7 @@ pub fn put_value(payload: &mut [u8], index: usize, value: u32) -> bool
 
 // Where the value at an index starts in a payload of this length, if there is room for it.
 fn start_of(length: usize, index: usize) -> Option<usize>
-    ensures { MatchOption result (length / value_length ≤ index) (λ start. (index < length / value_length) × (start ≡ value_length * index)) }
+    ensures { MatchOption result (length / value_length ≤ index) (StartsAt length index) }
 {
     (index < length / VALUE_LENGTH).then(|| VALUE_LENGTH * index)
 }

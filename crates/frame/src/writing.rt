@@ -1,30 +1,33 @@
 //! Writing a frame into lent memory: the header, and the payload behind it, which is handed on to be filled.
 ghost use Rattle.std.specs.Prelude.{◌≡◌, ℕ, cond, is_ok};
 ghost use Rattle.midpoint.specs.Refusals.{ByRows};
-ghost use Rattle.frame.specs.Layout.{length_of};
+ghost use Rattle.frame.specs.Layout.{frame_length_of};
 ghost use Rattle.frame.specs.Writing.{too_short, filled, with_frame};
 
 use crate::refusal::Refusal;
 use crate::turn::{HEADER_LENGTH, Turn};
 
-/// Values that a frame carries: they fill its payload.
+/// Values that a frame carries: they fill its payload. They are a view of what is lent, so they can be copied, and
+/// are let go of where memory is too short for the frame.
 pub trait Values: Copy {
     /// The value at each index.
     ghost value: { Self → ℕ → ℕ };
 
-    /// Puts the value of each index into a payload, as many as there is room for.
+    /// Puts the value of each index into a payload, as many as there is room for. Bytes at its end that are too few
+    /// for a value stay as they were.
     fn fill(self, payload: &mut [u8])
         ensures { payload.new ≡ filled (value self) payload.old };
 }
 
 impl Turn {
-    /// Writes the frame into lent memory, and answers its length. Memory that is too short is refused, 7 at its
-    /// length, and is left as it was; what lies behind the frame in longer memory is kept.
+    /// Writes the frame into lent memory, and answers its length: the header, and as many of the values as the frame
+    /// carries. Memory that is too short is refused, 7 at its length, and is left as it was; what lies behind the
+    /// frame in longer memory is kept.
     pub fn write<V: Values>(&self, values: V, memory: &mut [u8]) -> Result<usize, Refusal>
-        ensures answer { ByRows (too_short self.now memory.old) (λ e. e) (λ length. length ≡ length_of self.now) result }
+        ensures answer { ByRows (too_short self.now memory.old) (λ e. e) (λ length. length ≡ frame_length_of self.now) result }
         ensures memory { memory.new ≡ cond (is_ok result) (with_frame self.now (V.value values) memory.old) memory.old }
     {
-        let length = self.length();
+        let length = self.frame_length();
         if memory.len() < length {
             return Err(Refusal::Length {
                 length: memory.len(),

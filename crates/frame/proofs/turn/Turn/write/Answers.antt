@@ -1,5 +1,5 @@
 use Rattle.std.proofs.Common.{◌≡◌, ◌∙◌, refl, arith}
-use Rattle.frame.specs.Layout.{count_of, header_of}
+use Rattle.frame.specs.Layout.{value_count_of, header_of}
 use Rattle.frame.proofs.Written.{framed}
 use Rattle.frame.proofs.turn.Turn.write.Goals as goal
 
@@ -7,5 +7,5 @@ pub returns-clause-memory : goal.returns-clause-memory
 returns-clause-memory g c =
     let header : c.copy_from_slice.new.self ≡ header_of c.args.self.now = c.copy_from_slice.ensures.after ∙ c.header.ensures in
     rw header
-    (framed (g.V.Values.value c.args.values) (header_of c.args.self.now) c.args.memory.now c.fill.new.payload 5 c.length-length.result (count_of c.args.self.now)
-    refl c.length-length.ensures (omega arith) (rw header at c.fill.ensures))
+    (framed (g.V.Values.value c.args.values) (header_of c.args.self.now) c.args.memory.now c.fill.new.payload 5 c.frame_length-length.result (value_count_of c.args.self.now)
+    refl c.frame_length-length.ensures (omega arith) (rw header at c.fill.ensures))
