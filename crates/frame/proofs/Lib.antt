@@ -1,5 +1,5 @@
-pub mod Counts
 pub mod Bytes
+pub mod Counts
+pub mod Payloads
 pub mod Written
 pub mod Frames
-pub mod Read

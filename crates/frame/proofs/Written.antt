@@ -8,13 +8,14 @@ use Rattle.std.proofs.lemmas.List.FromFn.{length-map-range_with_len, map-range_w
 use Rattle.frame.specs.Numbers.{low_first}
 use Rattle.frame.specs.Layout.{value_length, bytes_of}
 use Rattle.frame.specs.Writing.{written_over, first_values, filled, with_value}
-use Rattle.frame.proofs.Bytes.{length-row}
+use Rattle.frame.proofs.Payloads.{length-bytes_of}
 
 pub length-values : (value : ℕ → ℕ) (count : ℕ) → length (bytes_of (first_values value count)) ≡ value_length * count
-length-values value count = length-row value_length (first_values value count) ∙ ap (λ n. value_length * n) (length-map-range_with_len value 0 count)
+length-values value count = length-bytes_of (first_values value count) ∙ ap (λ n. value_length * n) (length-map-range_with_len value 0 count)
 
 -- a header, and behind it a payload that values have filled
-pub framed : (value : ℕ → ℕ) (header memory payload : List ℕ) (n m count : ℕ) → length header ≡ n → m ≡ n + value_length * count → m ≤ length memory →
+pub framed : (value : ℕ → ℕ) (header memory payload : List ℕ) (n m count : ℕ) →
+    length header ≡ n → m ≡ n + value_length * count → m ≤ length memory →
     payload ≡ filled value (take (m - n) (drop n (header ++ drop n memory))) →
     put_mid n (m - n) (header ++ drop n memory) payload ≡ written_over (header ++ bytes_of (first_values value count)) memory
 framed value header memory payload n m count h e l p =
@@ -36,9 +37,10 @@ pub filled_more : (value : ℕ → ℕ) (index : ℕ) (old payload : List ℕ) �
 filled_more value index old payload h p =
     let row = bytes_of (first_values value index) in
     let long : length row ≡ value_length * index = length-values value index in
-    let more : bytes_of (first_values value (index + 1)) ≡ row ++ low_first value_length (value index) =
-    ap bytes_of (map-range_with_len_more value 0 index index (omega arith)) ∙ sym (flat_map_more (low_first value_length) [] (first_values value index) (value index)) in
     let low = low_first value_length (value index) in
+    let more : bytes_of (first_values value (index + 1)) ≡ row ++ low =
+    ap bytes_of (map-range_with_len_more value 0 index index (omega arith))
+    ∙ sym (flat_map_more (low_first value_length) [] (first_values value index) (value index)) in
     let kept : length payload ≡ length old = rw p (omega (arith, length-append row (drop (length row) old), length-drop (length row) old, long, h)) in
     let reaches : nat_lt index (length payload / value_length) ≡ true = grind (arith, nat_tests, kept, h) in
     let front : take (value_length * index) payload ≡ row = rw p (take_at row (drop (length row) old) (value_length * index) long) in

@@ -49,7 +49,7 @@ impl Turn {
 
     /// How many values the frame carries: one for each path of different nodes without the sender that has as many
     /// nodes as the round's place in its cycle.
-    #[tactic(auto, using(crate::proofs::Counts::few_more, std::proofs::lemmas::Nat::mod_below))]
+    #[tactic(auto, using(crate::proofs::Counts::one_longer_at_most, std::proofs::lemmas::Nat::mod_below))]
     pub fn value_count(&self) -> usize
         ensures { result ≡ value_count_of self.now }
     {
@@ -61,7 +61,7 @@ impl Turn {
     }
 
     /// How many bytes the frame has.
-    #[tactic(auto, using(crate::proofs::Counts::few_values))]
+    #[tactic(auto, using(crate::proofs::Counts::values_at_most))]
     pub fn frame_length(&self) -> usize
         ensures { result ≡ frame_length_of self.now }
     {

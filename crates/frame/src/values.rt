@@ -7,7 +7,7 @@ use crate::turn::VALUE_LENGTH;
 use crate::writing::Values;
 
 /// The value at an index of a payload, or nothing past its end.
-#[tactic(auto, using(crate::proofs::Read::value_at, crate::proofs::Read::no_value_at))]
+#[tactic(auto, using(crate::proofs::Payloads::value_at, crate::proofs::Payloads::no_value_at))]
 pub fn value(payload: &[u8], index: usize) -> Option<u32>
     ensures { result ≡ slice_get (values_in payload.now) index }
 {
