@@ -108,6 +108,7 @@ lengths t = record {
   within = omega (arith, within_cycle t, t.cluster.few);
   least = omega (arith, values_at_least_one t);
   most = omega (arith, values_at_most t);
+  constants = (refl, refl, refl);
   longest = λ nodes last. rw (nodes, last);
 }
 

@@ -2,11 +2,11 @@
 use Rattle.std.specs.Prelude.{◌≡◌, ℕ, ℤ, ◌+◌, ◌-◌, ◌*◌, ◌^◌, ◌<◌, ◌≤◌, ◌↔◌, List, length, take, slice_set, All, None}
 use Rattle.midpoint.specs.Refusals.{first_applying}
 use Rattle.frame.specs.Numbers.{Bytes}
-use Rattle.frame.specs.Layout.{place_in_cycle, value_count_of, frame_length_of, header_round_of, header_of, frame_of, payload_of, values_in}
+use Rattle.frame.specs.Layout.{header_length, value_length, place_in_cycle, value_count_of, frame_length_of, header_round_of, header_of, frame_of, payload_of, values_in}
 use Rattle.frame.specs.Reading.{untaken, Receives}
 use Rattle.frame.specs.Writing.{first_values, with_frame, with_value}
 use Rattle.frame.specs.declared.turn.Turn.{Turn}
-use Rattle.frame.specs.declared.turn.TheConstants.{MAX_FRAME_LENGTH}
+use Rattle.frame.specs.declared.turn.TheConstants.{HEADER_LENGTH, VALUE_LENGTH, MAX_FRAME_LENGTH}
 use Rattle.frame.specs.declared.reading.Reception.{Reception}
 use Rattle.frame.specs.declared.reading.Reception.TheVariants.{Whole, TurnedAway}
 
@@ -75,7 +75,8 @@ abbrev pub HeaderTellsTheRound : Type 0
 HeaderTellsTheRound = (t u : Turn) → HeaderTells t u
 
 -- In a cycle's first round a frame carries one value, and in the next ones n - 1, (n - 1)(n - 2) and (n - 1)(n - 2)(n - 3), where n is the number of
--- nodes. So it has 9 bytes or more, and at most 10,925: those of the last round of a cycle of 16 nodes that allow 3 faults.
+-- nodes. So it has 9 bytes or more, and at most 10,925: those of the last round of a cycle of 16 nodes that allow 3 faults. The constants that callers
+-- see are these numbers.
 pub record Lengths (t : Turn) : Type 0 where
   pub first : place_in_cycle t.cluster t.round ≡ 0 → value_count_of t ≡ 1
   pub second : place_in_cycle t.cluster t.round ≡ 1 → value_count_of t ≡ t.cluster.nodes - 1
@@ -84,6 +85,7 @@ pub record Lengths (t : Turn) : Type 0 where
   pub within : place_in_cycle t.cluster t.round ≤ 3
   pub least : 9 ≤ frame_length_of t
   pub most : frame_length_of t ≤ MAX_FRAME_LENGTH
+  pub constants : (HEADER_LENGTH ≡ header_length) × (VALUE_LENGTH ≡ value_length) × (MAX_FRAME_LENGTH ≡ 10925)
   pub longest : t.cluster.nodes ≡ 16 → place_in_cycle t.cluster t.round ≡ 3 → frame_length_of t ≡ MAX_FRAME_LENGTH
 
 abbrev pub LengthsAreWithin : Type 0
