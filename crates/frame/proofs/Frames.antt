@@ -11,7 +11,7 @@ use Rattle.frame.specs.Writing.{first_values}
 use Rattle.frame.specs.Theorems.{Carried, Fits, written_frame, Taken, RoundTrip, ReceivedWhole, Exact, SaidOneWay, LengthsAreWithin, PutIsRead}
 use Rattle.frame.specs.declared.turn.Turn.{Turn}
 use Rattle.frame.specs.declared.reading.Reception.TheVariants.{Whole, TurnedAway}
-use Rattle.frame.proofs.Counts.{within_cycle, values_at_most, values_at_least_one}
+use Rattle.frame.proofs.Counts.{values_at_most, values_at_least_one}
 use Rattle.frame.proofs.Bytes.{number_written, bytes_read, take_bytes, drop_bytes, number_put}
 use Rattle.frame.proofs.Payloads.{length-bytes_of, length-values_in, values_fit, values_written, payload_read}
 
@@ -105,7 +105,6 @@ lengths t = record {
   second = λ second. rw second (omega arith);
   third = λ third. rw third (omega arith);
   fourth = λ fourth. rw fourth (omega arith);
-  within = omega (arith, within_cycle t, t.cluster.few);
   least = omega (arith, values_at_least_one t);
   most = omega (arith, values_at_most t);
   constants = (refl, refl, refl);

@@ -1,6 +1,7 @@
 -- What is proved of frames. Each statement is demanded by the contract of a function of src/theorems.rt. Assumes nothing.
 use Rattle.std.specs.Prelude.{◌≡◌, ℕ, ℤ, ◌+◌, ◌-◌, ◌*◌, ◌^◌, ◌<◌, ◌≤◌, ◌↔◌, List, length, take, slice_set, All, None}
 use Rattle.midpoint.specs.Refusals.{first_applying}
+use Rattle.clock.specs.declared.limits.Cluster.{Cluster}
 use Rattle.frame.specs.Numbers.{Bytes}
 use Rattle.frame.specs.Layout.{header_length, value_length, place_in_cycle, value_count_of, frame_length_of, header_round_of, header_of, frame_of, payload_of, values_in}
 use Rattle.frame.specs.Reading.{untaken, Receives}
@@ -74,6 +75,16 @@ pub record HeaderTells (t u : Turn) : Type 0 where
 abbrev pub HeaderTellsTheRound : Type 0
 HeaderTellsTheRound = (t u : Turn) → HeaderTells t u
 
+-- Cycles begin with round 0 and follow one another, and each has a round more than the cluster allows faults.
+pub record Cycles (c : Cluster) : Type 0 where
+  pub begins : place_in_cycle c 0 ≡ 0
+  pub goes_on : (round : ℕ) → place_in_cycle c round < c.faults → place_in_cycle c (round + 1) ≡ place_in_cycle c round + 1
+  pub begins_again : (round : ℕ) → place_in_cycle c round ≡ c.faults → place_in_cycle c (round + 1) ≡ 0
+  pub within : (round : ℕ) → place_in_cycle c round ≤ c.faults
+
+abbrev pub CyclesFollow : Type 0
+CyclesFollow = (c : Cluster) → Cycles c
+
 -- In a cycle's first round a frame carries one value, and in the next ones n - 1, (n - 1)(n - 2) and (n - 1)(n - 2)(n - 3), where n is the number of
 -- nodes. So it has 9 bytes or more, and at most 10,925: those of the last round of a cycle of 16 nodes that allow 3 faults. The constants that callers
 -- see are these numbers.
@@ -82,7 +93,6 @@ pub record Lengths (t : Turn) : Type 0 where
   pub second : place_in_cycle t.cluster t.round ≡ 1 → value_count_of t ≡ t.cluster.nodes - 1
   pub third : place_in_cycle t.cluster t.round ≡ 2 → value_count_of t ≡ (t.cluster.nodes - 1) * (t.cluster.nodes - 2)
   pub fourth : place_in_cycle t.cluster t.round ≡ 3 → value_count_of t ≡ (t.cluster.nodes - 1) * (t.cluster.nodes - 2) * (t.cluster.nodes - 3)
-  pub within : place_in_cycle t.cluster t.round ≤ 3
   pub least : 9 ≤ frame_length_of t
   pub most : frame_length_of t ≤ MAX_FRAME_LENGTH
   pub constants : (HEADER_LENGTH ≡ header_length) × (VALUE_LENGTH ≡ value_length) × (MAX_FRAME_LENGTH ≡ 10925)

@@ -1,7 +1,7 @@
 //! The theorems of this crate. Each function's contract is one statement of `specs/Theorems.antt`, so that the
 //! crate is not proved without it; what the function does is nothing.
 ghost use Rattle.frame.specs.Theorems.{RoundTrip, ReceivedWhole, Exact, SaidOneWay};
-ghost use Rattle.frame.specs.Theorems.{TakenInItsTurn, HeaderTellsTheRound, LengthsAreWithin, PutIsRead};
+ghost use Rattle.frame.specs.Theorems.{TakenInItsTurn, HeaderTellsTheRound, CyclesFollow, LengthsAreWithin, PutIsRead};
 
 /// What is written is taken in its turn, and has the values that were written.
 pub fn what_is_written_is_read()
@@ -31,6 +31,11 @@ pub fn frames_are_taken_in_their_turn()
 /// The header tells the round modulo 2^32, and no more.
 pub fn header_tells_the_round()
     ensures { HeaderTellsTheRound }
+{}
+
+/// Cycles begin with round 0 and follow one another.
+pub fn cycles_follow()
+    ensures { CyclesFollow }
 {}
 
 /// How many values a frame carries, and that it has 9 bytes at least, and 10,925 at most.
