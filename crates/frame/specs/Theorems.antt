@@ -60,7 +60,7 @@ SaidOneWay =
 -- than 2^32 rounds apart.
 pub record SameTurn (t u : Turn) : Type 0 where
   pub sender : t.sender ≡ u.sender
-  pub told_round : header_round_of t ≡ header_round_of u
+  pub header_round : header_round_of t ≡ header_round_of u
   pub round : t.round < u.round + 2 ^ 32 → u.round < t.round + 2 ^ 32 → t.round ≡ u.round
 
 abbrev pub TakenInItsTurn : Type 0
