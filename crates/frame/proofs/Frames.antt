@@ -7,8 +7,8 @@ use Rattle.std.proofs.lemmas.List.FromFn.{length-map-range_with_len, get_or-map-
 use Rattle.std.proofs.lemmas.Option.{none-some}
 use Rattle.frame.specs.Numbers.{low_first, Bytes}
 use Rattle.frame.specs.Layout.{value_length, header_round_of, value_count_of, frame_length_of, header_of, frame_of, sender_in, round_in, payload_of, values_in}
-use Rattle.frame.specs.Writing.{first_values}
-use Rattle.frame.specs.Theorems.{Carried, Fits, written_frame, Taken, RoundTrip, ReceivedWhole, Exact, SaidOneWay, LengthsAreWithin, PutIsRead}
+use Rattle.frame.specs.Writing.{first_values, FirstFit}
+use Rattle.frame.specs.Theorems.{Carried, written_frame, Taken, RoundTrip, ReceivedWhole, Exact, SaidOneWay, LengthsAreWithin, PutIsRead}
 use Rattle.frame.specs.declared.turn.Turn.{Turn}
 use Rattle.frame.specs.declared.reading.Reception.TheVariants.{Whole, TurnedAway}
 use Rattle.frame.proofs.Counts.{values_at_most, values_at_least_one}
@@ -64,7 +64,7 @@ taken_written t row bytes taken =
     )
 
 -- values that are given by their index, as a list
-carried_values : (t : Turn) (value : ℕ → ℕ) → Fits t value → Carried t (first_values value (value_count_of t))
+carried_values : (t : Turn) (value : ℕ → ℕ) → FirstFit value (value_count_of t) → Carried t (first_values value (value_count_of t))
 carried_values t value fit =
     let count = value_count_of t in
     let many : length (first_values value count) ≡ count = length-map-range_with_len value 0 count in record {

@@ -5,7 +5,7 @@ use Rattle.clock.specs.declared.limits.Cluster.{Cluster}
 use Rattle.frame.specs.Numbers.{Bytes}
 use Rattle.frame.specs.Layout.{header_length, value_length, place_in_cycle, value_count_of, frame_length_of, header_round_of, header_of, frame_of, payload_of, values_in}
 use Rattle.frame.specs.Reading.{untaken, Receives}
-use Rattle.frame.specs.Writing.{first_values, with_frame, with_value}
+use Rattle.frame.specs.Writing.{first_values, FirstFit, with_frame, with_value}
 use Rattle.frame.specs.declared.turn.Turn.{Turn}
 use Rattle.frame.specs.declared.turn.TheConstants.{HEADER_LENGTH, VALUE_LENGTH, MAX_FRAME_LENGTH}
 use Rattle.frame.specs.declared.reading.Reception.{Reception}
@@ -15,10 +15,6 @@ use Rattle.frame.specs.declared.reading.Reception.TheVariants.{Whole, TurnedAway
 pub record Carried (t : Turn) (values : List ℕ) : Type 0 where
   pub as_many : length values ≡ value_count_of t
   pub fit : All (λ value. value < 2 ^ 32) values
-
--- and such values where they are given by their index
-abbrev pub Fits : Turn → (ℕ → ℕ) → Type 0
-Fits t value = (index : ℕ) → index < value_count_of t → value index < 2 ^ 32
 
 -- a frame that no check turns away
 abbrev pub Taken : Turn → List ℕ → Type 0
@@ -35,7 +31,9 @@ abbrev pub written_frame : Turn → (ℕ → ℕ) → List ℕ → List ℕ
 written_frame t value memory = take (frame_length_of t) (with_frame t value memory)
 
 abbrev pub RoundTrip : Type 0
-RoundTrip = (t : Turn) (value : ℕ → ℕ) (memory : List ℕ) → Fits t value → ReadAs t (written_frame t value memory) (first_values value (value_count_of t))
+RoundTrip =
+    (t : Turn) (value : ℕ → ℕ) (memory : List ℕ) → FirstFit value (value_count_of t) →
+    ReadAs t (written_frame t value memory) (first_values value (value_count_of t))
 
 -- So what was written and is heard in its turn is never turned away: it is received whole, with its deviation and the values that were written.
 abbrev pub WholeWith : ℤ → List ℕ → Reception → Type 0
@@ -44,7 +42,7 @@ WholeWith deviation values (TurnedAway refusal) = ⊥
 
 abbrev pub ReceivedWhole : Type 0
 ReceivedWhole =
-    (t : Turn) (value : ℕ → ℕ) (memory : List ℕ) (deviation : ℤ) (reception : Reception) → Fits t value →
+    (t : Turn) (value : ℕ → ℕ) (memory : List ℕ) (deviation : ℤ) (reception : Reception) → FirstFit value (value_count_of t) →
     Receives t deviation (written_frame t value memory) reception → WholeWith deviation (first_values value (value_count_of t)) reception
 
 -- Exactness: a row of bytes is taken if it is what writing gives for some values, and only then.

@@ -1,5 +1,5 @@
 -- Frames written into lent memory. Assumes nothing: these are definitions.
-use Rattle.std.specs.Prelude.{◌≡◌, ℕ, ◌+◌, ◌*◌, ◌/◌, ◌<◌, cond, List, [], ◌∷◌, ◌++◌, length, take, drop, map, nat_lt}
+use Rattle.std.specs.Prelude.{◌≡◌, ℕ, ◌+◌, ◌*◌, ◌/◌, ◌^◌, ◌<◌, cond, List, [], ◌∷◌, ◌++◌, length, take, drop, map, nat_lt}
 use Rattle.std.specs.List.{range_with_len}
 use Rattle.midpoint.specs.Refusals.{Row, refused_if}
 use Rattle.frame.specs.Numbers.{low_first}
@@ -19,6 +19,10 @@ written_over row memory = row ++ drop (length row) memory
 -- values that are given by their index: the first ones, so many of them
 abbrev pub first_values : (ℕ → ℕ) → ℕ → List ℕ
 first_values value count = map value (range_with_len 0 count)
+
+-- and that these fit into four bytes each
+abbrev pub FirstFit : (ℕ → ℕ) → ℕ → Type 0
+FirstFit value count = (index : ℕ) → index < count → value index < 2 ^ 32
 
 -- a payload that such values have filled, as many as there is room for
 abbrev pub filled : (ℕ → ℕ) → List ℕ → List ℕ

@@ -1,8 +1,8 @@
 //! Writing a frame into lent memory: the header, and the payload behind it, which is handed on to be filled.
-ghost use Rattle.std.specs.Prelude.{◌≡◌, ℕ, cond, is_ok};
+ghost use Rattle.std.specs.Prelude.{◌≡◌, ℕ, ◌/◌, cond, length, is_ok, OnOk};
 ghost use Rattle.midpoint.specs.Refusals.{ByRows};
-ghost use Rattle.frame.specs.Layout.{frame_length_of};
-ghost use Rattle.frame.specs.Writing.{too_short, filled, with_frame};
+ghost use Rattle.frame.specs.Layout.{value_length, value_count_of, frame_length_of};
+ghost use Rattle.frame.specs.Writing.{too_short, FirstFit, filled, with_frame};
 
 use crate::refusal::Refusal;
 use crate::turn::{HEADER_LENGTH, Turn};
@@ -14,9 +14,10 @@ pub trait Values: Copy {
     ghost value: { Self → ℕ → ℕ };
 
     /// Puts the value of each index into a payload, as many as there is room for. Bytes at its end that are too few
-    /// for a value stay as they were.
+    /// for a value stay as they were. The values that it puts fit into their bytes.
     fn fill(self, payload: &mut [u8])
-        ensures { payload.new ≡ filled (value self) payload.old };
+        ensures payload { payload.new ≡ filled (value self) payload.old }
+        ensures fit { FirstFit (value self) (length payload.old / value_length) };
 }
 
 impl Turn {
@@ -26,6 +27,7 @@ impl Turn {
     pub fn write<V: Values>(&self, values: V, memory: &mut [u8]) -> Result<usize, Refusal>
         ensures answer { ByRows (too_short self.now memory.old) (λ e. e) (λ length. length ≡ frame_length_of self.now) result }
         ensures memory { memory.new ≡ cond (is_ok result) (with_frame self.now (V.value values) memory.old) memory.old }
+        ensures fit { OnOk result (FirstFit (V.value values) (value_count_of self.now)) }
     {
         let length = self.frame_length();
         if memory.len() < length {

@@ -8,4 +8,4 @@ returns-clause-memory g c =
     let header : c.copy_from_slice.new.self ≡ header_of c.args.self.now = c.copy_from_slice.ensures.after ∙ c.header.ensures in
     rw header
     (framed (g.V.Values.value c.args.values) (header_of c.args.self.now) c.args.memory.now c.fill.new.payload 5 c.frame_length-length.result (value_count_of c.args.self.now)
-    refl c.frame_length-length.ensures (omega arith) (rw header at c.fill.ensures))
+    refl c.frame_length-length.ensures (omega arith) (rw header at c.fill.ensures.payload))
