@@ -1,0 +1,11 @@
+mod Sets
+mod Lists
+mod Turns
+mod Numbers
+mod Places
+mod Told
+mod Left
+mod Entering
+mod Order
+mod Counts
+mod Relaying

@@ -1,0 +1,133 @@
+-- What is held of what was told. Assumes nothing.
+use Rattle.std.proofs.Common.{◌≡◌, ℕ, zero, suc, ◌+◌, ◌^◌, ◌<◌, Bool, true, not, ◌&&◌, nat_lt, List, [], ◌∷◌, length, map, get_or, slice_index, inl, inr, sym, refl, ap, ◌∙◌, arith}
+use Rattle.std.specs.List.{Contains, filter, range_with_len}
+use Rattle.std.proofs.Math.Nat.{pow-suc, one-le-pow}
+use Rattle.std.proofs.lemmas.Bool.{cases_Bool, and_parts, and_from, ltb-true, lt-ltb}
+use Rattle.std.proofs.lemmas.Bool.Decides.{nat_tests}
+use Rattle.std.proofs.lemmas.Nat.{same_from_place, mul-le}
+use Rattle.std.proofs.lemmas.List.{get_or-map, length-drop}
+use Rattle.std.proofs.lemmas.List.Elements.{All-cons, All-nil, All-contains, All-filter, filter_passes}
+use Rattle.frame.specs.Layout.{value_count_of, frame_length_of, payload_of, values_in}
+use Rattle.frame.specs.Writing.{first_values}
+use Rattle.frame.specs.declared.turn.Turn.{Turn}
+use Rattle.frame.specs.declared.reading.Reception.TheVariants.{Whole, TurnedAway}
+use Rattle.frame.proofs.Payloads.{length-values_in}
+use Rattle.frame.proofs.Frames.{received_whole}
+use Rattle.relay.specs.Paths.{AllBelow, stands_in, is_path, is_told, index_of, rows}
+use Rattle.relay.specs.Tables.{held_for}
+use Rattle.relay.specs.Telling.{paths_of, IsTold, told_from, heard_in, Entered}
+use Rattle.relay.specs.Theorems.{PathsAreInOrder, ValuesAreAsMany, Relays, HoldsWhatItTells, SilenceIsZero, OthersStay, FirstIsOwn, TablesAreWithin}
+use Rattle.relay.proofs.Lists.{list_by_index}
+use Rattle.relay.proofs.Numbers.{index_below, power_small, rows_long}
+use Rattle.relay.proofs.Order.{listed}
+use Rattle.relay.proofs.Counts.{paths_are_as_many}
+use Rattle.relay.proofs.Entering.{told_by_index}
+use Rattle.relay.proofs.Turns.{place_of, indices_rise, entry_within}
+
+-- the paths that are told of are those that are listed
+path_below : (n : ℕ) (row : List ℕ) → is_path n row ≡ true → AllBelow n row
+path_below n [] path = All-nil (λ node. node < n)
+path_below n (node ∷ row) path =
+    let (front, behind) = and_parts (nat_lt node n && not (stands_in node row)) (is_path n row) path in
+    let (within, free) = and_parts (nat_lt node n) (not (stands_in node row)) front in
+    All-cons (λ node. node < n) node row (ltb-true node n within) (path_below n row behind)
+
+kept_in : (p : List ℕ → Bool) (all : List (List ℕ)) (x : List ℕ) → p x ≡ true → Contains all x → Contains (filter p all) x
+kept_in p [] x passes (k, h, is) = absurd (omega (arith, h))
+kept_in p (y ∷ all) x passes (zero, h, is) = let here : p y ≡ true = ap p is ∙ passes in rw here (0, omega arith, is)
+kept_in p (y ∷ all) x passes (suc k, h, is) =
+    let (j, within, there) = kept_in p all x passes (k, omega (arith, h), is) in
+    elim (cases_Bool (p y)) [
+      | inl one ↦ rw one (suc j, omega (arith, within), there)
+      | inr none ↦ rw none (j, within, there)
+    ]
+
+each : (t : Turn) (path : List ℕ) → IsTold t path → Contains (paths_of t) path
+each t path told =
+    let n = t.cluster.nodes in
+    let (is, free) = and_parts (is_path n path) (not (stands_in t.sender path)) told.without_sender in
+    kept_in (is_told n t.sender) (rows n (place_of t)) path told.without_sender
+    (listed n (place_of t) path (record { as_long = told.as_long; of_cluster = path_below n path is }))
+
+only : (t : Turn) (path : List ℕ) → Contains (paths_of t) path → IsTold t path
+only t path in_list =
+    let told = is_told t.cluster.nodes t.sender in
+    let all = rows t.cluster.nodes (place_of t) in record {
+      as_long = All-contains (λ row. length row ≡ place_of t) (paths_of t) path (All-filter told (λ row. length row ≡ place_of t) all (rows_long t.cluster.nodes (place_of t))) in_list;
+      without_sender = All-contains (λ row. told row ≡ true) (paths_of t) path (filter_passes told all) in_list;
+    }
+
+longer_path : (t : Turn) (path : List ℕ) → t.sender < t.cluster.nodes → IsTold t path → is_path t.cluster.nodes (t.sender ∷ path) ≡ true
+longer_path t path known told =
+    let n = t.cluster.nodes in
+    let (is, free) = and_parts (is_path n path) (not (stands_in t.sender path)) told.without_sender in
+    and_from (nat_lt t.sender n && not (stands_in t.sender path)) (is_path n path) (and_from (nat_lt t.sender n) (not (stands_in t.sender path)) (lt-ltb t.sender n known) free) is
+
+pub paths_in_order : PathsAreInOrder
+paths_in_order t = record {
+  each = λ path. (each t path, only t path);
+  rising = indices_rise t;
+  in_front = λ known path told. longer_path t path known told;
+  within = λ known path told.
+      let n = t.cluster.nodes in
+      let (is, free) = and_parts (is_path n path) (not (stands_in t.sender path)) told.without_sender in
+      let small : index_of n path < n ^ place_of t = rw told.as_long at (index_below n path (path_below n path is)) in
+      entry_within t (index_of n path) known small;
+}
+
+-- a frame has a value for each
+pub as_many_values : ValuesAreAsMany
+as_many_values t known =
+    let count = paths_are_as_many t.cluster.nodes t.sender (place_of t) known in record {
+      count = count;
+      all_heard = λ frame taken.
+          let long : length frame ≡ frame_length_of t = grind (arith, nat_tests) in
+          let many : length (values_in (payload_of frame)) ≡ length (paths_of t) = omega (arith, length-values_in (payload_of frame), length-drop 5 frame, long, count) in
+          ap (λ n. map (slice_index (values_in (payload_of frame))) (range_with_len 0 n)) (sym many) ∙ sym (list_by_index (values_in (payload_of frame)));
+    }
+
+-- what is held for the node in front of a path
+held_of : (t : Turn) (f : List ℕ → ℕ) (old new : List ℕ) → Entered t (map f (paths_of t)) old new → (path : List ℕ) → IsTold t path →
+    held_for t.cluster new (t.sender ∷ path) ≡ f path
+held_of t f old new entered path told =
+    let (k, within, is) = each t path told in
+    let held : List ℕ → ℕ = λ path. held_for t.cluster new (t.sender ∷ path) in
+    ap held (sym is) ∙ sym (get_or-map held (paths_of t) k path 0 within) ∙ ap (λ values. get_or values k 0) entered.told ∙ get_or-map f (paths_of t) k path 0 within ∙ ap f is
+
+pub silence_is_zero : SilenceIsZero
+silence_is_zero t old new entered path told = held_of t (λ path. 0) old new entered path told
+
+pub holds_what_it_tells : HoldsWhatItTells
+holds_what_it_tells t table old new entered path told = held_of t (held_for t.cluster table) old new entered path told
+
+-- what is written into a frame is all that is told
+all_told : (t : Turn) (table : List ℕ) → t.sender < t.cluster.nodes → first_values (slice_index (told_from t table)) (value_count_of t) ≡ told_from t table
+all_told t table known =
+    ap (λ n. map (slice_index (told_from t table)) (range_with_len 0 n)) (sym (paths_are_as_many t.cluster.nodes t.sender (place_of t) known)) ∙ told_by_index t table
+
+pub relays : Relays
+relays t table memory old new deviation (Whole ahead payload) known fit received entered path told =
+    let same : values_in payload.now ≡ told_from t table = (received_whole t (slice_index (told_from t table)) memory deviation (Whole ahead payload) fit received).1 ∙ all_told t table known in
+    let heard : heard_in t payload.now ≡ told_from t table = ap (λ values. map (slice_index values) (range_with_len 0 (length (paths_of t)))) same ∙ told_by_index t table in
+    held_of t (held_for t.cluster table) old new (rw heard at entered) path told
+relays t table memory old new deviation (TurnedAway refusal) known fit received entered path told =
+    absurd (received_whole t (slice_index (told_from t table)) memory deviation (TurnedAway refusal) fit received)
+
+pub others_stay : OthersStay
+others_stay t values old new known entered other row within differs =
+    let n = t.cluster.nodes in
+    entered.kept (index_of n (other ∷ row)) (λ path told same. differs (same_from_place (index_of n row) other (index_of n path) t.sender n within known same).1)
+
+pub first_is_own : FirstIsOwn
+first_is_own t table first = rw first refl
+
+pub tables_within : TablesAreWithin
+tables_within c = record {
+  least =
+      let one : c.faults + 1 ≡ suc c.faults = omega arith in
+      let more = mul-le 1 4 (c.nodes ^ c.faults) c.nodes (one-le-pow c.faults c.nodes (omega (arith, c.enough))) c.enough in
+      rw (one, pow-suc c.nodes c.faults) (omega (arith, more));
+  most = power_small c.nodes (c.faults + 1) c.most (omega (arith, c.few));
+  longest = λ nodes faults. rw (nodes, faults) refl;
+  constant = refl;
+}

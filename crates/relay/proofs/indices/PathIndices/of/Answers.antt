@@ -1,0 +1,23 @@
+use Rattle.std.proofs.Common.{◌≡◌, ℕ, ◌^◌, ◌≤◌, arith}
+use Rattle.frame.specs.Layout.{place_in_cycle}
+use Rattle.frame.specs.declared.turn.Turn.{Turn}
+use Rattle.relay.proofs.Numbers.{power_small}
+use Rattle.relay.proofs.Turns.{within_cycle}
+use Rattle.relay.proofs.Left.{left_at_start}
+use Rattle.relay.proofs.indices.PathIndices.of.Goals as goal
+
+small : (t : Turn) (nodes on_path : ℕ) → nodes ≡ t.cluster.nodes → on_path ≡ place_in_cycle t.cluster t.round → nodes ^ on_path ≤ 65536
+small t nodes on_path n k = power_small nodes on_path (omega (arith, n, t.cluster.most)) (omega (arith, k, within_cycle t, t.cluster.few))
+
+pub pow-requires : goal.pow-requires
+pow-requires c = omega (arith, small c.args.turn.now c.nodes-nodes.result c.place_in_cycle-on_path.result c.nodes-nodes.ensures c.place_in_cycle-on_path.ensures)
+
+pub invariant_of-result-clause-small : goal.invariant_of-result-clause-small
+invariant_of-result-clause-small c =
+    omega (arith, c.pow.ensures, small c.args.turn.now c.nodes-nodes.result c.place_in_cycle-on_path.result c.nodes-nodes.ensures c.place_in_cycle-on_path.ensures)
+
+pub returns : goal.returns
+returns c =
+    let t = c.args.turn.now in
+    left_at_start c.nodes-nodes.result t.sender c.place_in_cycle-on_path.result c.pow.result t.cluster.nodes (place_in_cycle t.cluster t.round)
+    c.nodes-nodes.ensures c.place_in_cycle-on_path.ensures c.pow.ensures

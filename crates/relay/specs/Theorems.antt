@@ -1,0 +1,111 @@
+-- What is proved of paths and tables. Each statement is demanded by the contract of a function of src/theorems.rt. Assumes nothing.
+use Rattle.std.specs.Prelude.{◌≡◌, ℕ, ℤ, ◌+◌, ◌^◌, ◌<◌, ◌≤◌, ◌↔◌, ◌⊎◌, true, List, [], ◌∷◌, length, map, reverse, slice_index, None}
+use Rattle.std.specs.List.{Contains, range_with_len}
+use Rattle.std.specs.List.Sorted.{IsStrictlyIncreasing}
+use Rattle.midpoint.specs.Refusals.{first_applying}
+use Rattle.clock.specs.declared.limits.Cluster.{Cluster}
+use Rattle.frame.specs.Layout.{place_in_cycle, value_count_of, payload_of, values_in}
+use Rattle.frame.specs.Reading.{Receives}
+use Rattle.frame.specs.Writing.{FirstFit}
+use Rattle.frame.specs.Theorems.{written_frame, Taken}
+use Rattle.frame.specs.declared.turn.Turn.{Turn}
+use Rattle.frame.specs.declared.reading.Reception.{Reception}
+use Rattle.frame.specs.declared.reading.Reception.TheVariants.{Whole, TurnedAway}
+use Rattle.relay.specs.Paths.{AllBelow, is_path, index_of, rows}
+use Rattle.relay.specs.Tables.{table_length_of, held_for, no_path}
+use Rattle.relay.specs.Telling.{paths_of, IsTold, told_from, heard_in, nothing_heard, Entered}
+use Rattle.relay.specs.declared.table.TheConstants.{MAX_TABLE_LENGTH}
+
+-- A row of so many nodes of a cluster.
+pub record RowOf (n count : ℕ) (row : List ℕ) : Type 0 where
+  pub as_long : length row ≡ count
+  pub of_cluster : AllBelow n row
+
+-- One row of nodes before another of the same length: at the first place where they differ it has the lower node.
+abbrev pub Before : List ℕ → List ℕ → Type 0
+Before [] other = ⊥
+Before (node ∷ row) [] = ⊥
+Before (node ∷ row) (another ∷ other) = (node < another) ⊎ ((node ≡ another) × Before row other)
+
+-- Index and row are one to one on rows of a length, and the index rises as the rows do, read from the last node to the first. The rows that the
+-- specifications list are all rows, and their indices are the numbers from 0 on, in order and without a gap.
+pub record Indexed (n count : ℕ) : Type 0 where
+  pub one_to_one : (one two : List ℕ) → RowOf n count one → RowOf n count two → index_of n one ≡ index_of n two → one ≡ two
+  pub rises : (one two : List ℕ) → RowOf n count one → RowOf n count two → (index_of n one < index_of n two) ↔ Before (reverse one) (reverse two)
+  pub all_rows : (row : List ℕ) → RowOf n count row ↔ Contains (rows n count) row
+  pub in_order : map (index_of n) (rows n count) ≡ range_with_len 0 (n ^ count)
+
+abbrev pub IndexIsOrder : Type 0
+IndexIsOrder = (n count : ℕ) → Indexed n count
+
+-- A node tells of each path that does not hold it and has as many nodes as the place of its round in the cycle, and of no other row, of each once, in rising
+-- order. With it in front each is a path again, with one node more, that its cluster's tables have.
+pub record InOrder (t : Turn) : Type 0 where
+  pub each : (path : List ℕ) → IsTold t path ↔ Contains (paths_of t) path
+  pub rising : IsStrictlyIncreasing (map (index_of t.cluster.nodes) (paths_of t))
+  pub in_front : t.sender < t.cluster.nodes → (path : List ℕ) → IsTold t path → is_path t.cluster.nodes (t.sender ∷ path) ≡ true
+  pub within : t.sender < t.cluster.nodes → (path : List ℕ) → IsTold t path → index_of t.cluster.nodes (t.sender ∷ path) < table_length_of t.cluster
+
+abbrev pub PathsAreInOrder : Type 0
+PathsAreInOrder = (t : Turn) → InOrder t
+
+-- A frame carries a value for each of these paths. So of a frame that was taken all values are heard, and none is made up.
+pub record AsMany (t : Turn) : Type 0 where
+  pub count : length (paths_of t) ≡ value_count_of t
+  pub all_heard : (frame : List ℕ) → Taken t frame → heard_in t (payload_of frame) ≡ values_in (payload_of frame)
+
+abbrev pub ValuesAreAsMany : Type 0
+ValuesAreAsMany = (t : Turn) → t.sender < t.cluster.nodes → AsMany t
+
+-- What becomes of a frame that came in its slot, in the table that is written: its values are entered, or nothing, where it is turned away.
+abbrev pub EntersReception : Turn → Reception → List ℕ → List ℕ → Type 0
+EntersReception t (Whole ahead payload) old new = Entered t (heard_in t payload.now) old new
+EntersReception t (TurnedAway refusal) old new = Entered t (nothing_heard t) old new
+
+-- Relaying: where a node wrote its frame from its table, and another one received the frame in its turn and entered what it heard, that one's table
+-- holds for the node in front of each path that does not hold it what the node's table holds for the path.
+abbrev pub Relays : Type 0
+Relays =
+    (t : Turn) (table memory old new : List ℕ) (deviation : ℤ) (reception : Reception) → t.sender < t.cluster.nodes →
+    FirstFit (slice_index (told_from t table)) (value_count_of t) →
+    Receives t deviation (written_frame t (slice_index (told_from t table)) memory) reception → EntersReception t reception old new →
+    (path : List ℕ) → IsTold t path → held_for t.cluster new (t.sender ∷ path) ≡ held_for t.cluster table path
+
+-- And so does the node's own table, into which it entered what it tells.
+abbrev pub HoldsWhatItTells : Type 0
+HoldsWhatItTells =
+    (t : Turn) (table old new : List ℕ) → Entered t (told_from t table) old new →
+    (path : List ℕ) → IsTold t path → held_for t.cluster new (t.sender ∷ path) ≡ held_for t.cluster table path
+
+-- A node of which nothing was heard leaves 0 for itself in front of each path that it was to tell of, whatever stood there before.
+abbrev pub SilenceIsZero : Type 0
+SilenceIsZero = (t : Turn) (old new : List ℕ) → Entered t (nothing_heard t) old new → (path : List ℕ) → IsTold t path → held_for t.cluster new (t.sender ∷ path) ≡ 0
+
+-- What one node told changes nothing of what another one told last.
+abbrev pub OthersStay : Type 0
+OthersStay =
+    (t : Turn) (values old new : List ℕ) → t.sender < t.cluster.nodes → Entered t values old new →
+    (other : ℕ) (row : List ℕ) → other < t.cluster.nodes → (other ≡ t.sender → ⊥) → held_for t.cluster new (other ∷ row) ≡ held_for t.cluster old (other ∷ row)
+
+-- In a cycle's first round a node tells its own value and nothing else.
+abbrev pub FirstIsOwn : Type 0
+FirstIsOwn = (t : Turn) (table : List ℕ) → place_in_cycle t.cluster t.round ≡ 0 → told_from t table ≡ held_for t.cluster table [] ∷ []
+
+-- What is not turned away as no path is a path, of one node or more, and of no more than a cycle has rounds; and no such path is turned away.
+pub record IsHeldPath (c : Cluster) (row : List ℕ) : Type 0 where
+  pub not_empty : 1 ≤ length row
+  pub short : length row ≤ c.faults + 1
+  pub path : is_path c.nodes row ≡ true
+
+abbrev pub PathsAreTaken : Type 0
+PathsAreTaken = (c : Cluster) (row : List ℕ) → (first_applying (no_path c row) ≡ None) ↔ IsHeldPath c row
+
+-- A table has at least 4 entries, and at most 65,536: those of 16 nodes that allow 3 faults. The constant that callers see is this number.
+pub record TableLengths (c : Cluster) : Type 0 where
+  pub least : 4 ≤ table_length_of c
+  pub most : table_length_of c ≤ MAX_TABLE_LENGTH
+  pub longest : c.nodes ≡ 16 → c.faults ≡ 3 → table_length_of c ≡ MAX_TABLE_LENGTH
+  pub constant : MAX_TABLE_LENGTH ≡ 65536
+
+abbrev pub TablesAreWithin : Type 0
+TablesAreWithin = (c : Cluster) → TableLengths c

@@ -1,0 +1,54 @@
+//! Paths as numbers, and why a row of nodes is turned away.
+ghost use Rattle.std.specs.Prelude.{◌≡◌, ◌<◌, ◌≤◌, length};
+ghost use Rattle.std.specs.List.{position, range_with_len};
+ghost use Rattle.midpoint.specs.Refusals.{ByRows};
+ghost use Rattle.relay.specs.Paths.{index_of, AllBelow};
+ghost use Rattle.relay.specs.Tables.{wrong_at, no_path, table_length_of};
+
+use crate::refusal::Refusal;
+use clock::Cluster;
+
+// The number of a path that the cluster's tables have, or why a row of nodes is none.
+#[tactic(auto, using(crate::proofs::Places::none_wrong_below, crate::proofs::Places::none_wrong, crate::proofs::Places::some_wrong))]
+pub(crate) fn path_index(cluster: &Cluster, row: &[u8]) -> Result<usize, Refusal>
+    ensures { ByRows (no_path cluster.now row.now) (λ e. e) (λ index. (index ≡ index_of cluster.now.nodes row.now) × (index < table_length_of cluster.now)) result }
+{
+    let length = row.len();
+    if length == 0 || length as u64 > cluster.faults() + 1 {
+        return Err(Refusal::PathLength { length });
+    }
+    let nodes = cluster.nodes() as usize;
+    match first_wrong(nodes, row) {
+        Some(place) => Err(Refusal::Node { place }),
+        None => Ok(index_of(nodes, row)),
+    }
+}
+
+// The place of the first node that is past the cluster or stood before.
+fn first_wrong(nodes: usize, row: &[u8]) -> Option<usize>
+    ensures { result ≡ position (wrong_at nodes row.now) (range_with_len 0 (length row.now)) }
+{
+    (0..row.len()).position(|place| wrong_at(nodes, row, place))
+}
+
+// Whether the node at a place of a row is past the cluster or stood before.
+fn wrong_at(nodes: usize, row: &[u8], place: usize) -> bool
+    requires { place < length row.now }
+    ensures { result ≡ wrong_at nodes row.now place }
+{
+    row[place] as usize >= nodes || row[..place].contains(&row[place])
+}
+
+// The number of a row of nodes.
+fn index_of(nodes: usize, row: &[u8]) -> usize
+    requires nodes { nodes ≤ 16 }
+    requires length { length row.now ≤ 4 }
+    requires row { AllBelow nodes row.now }
+    ensures { result ≡ index_of nodes row.now }
+{
+    let mut index = 0;
+    for place in (0..row.len()).rev() {
+        index = index * nodes + row[place] as usize;
+    }
+    index
+}

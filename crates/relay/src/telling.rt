@@ -1,0 +1,144 @@
+//! What a node tells in its turn, and what is entered of what was told.
+ghost use Rattle.std.specs.Prelude.{◌≡◌, ◌+◌, ◌*◌, ◌/◌, ◌<◌, ◌≤◌, ◌∷◌, [], length, slice_index, MatchOption};
+ghost use Rattle.std.specs.Result.{MatchResult};
+ghost use Rattle.midpoint.specs.Refusals.{ByRows};
+ghost use Rattle.frame.specs.Layout.{value_length};
+ghost use Rattle.frame.specs.Writing.{FirstFit, filled};
+ghost use Rattle.relay.specs.Tables.{table_length_of, unfit, past};
+ghost use Rattle.relay.specs.Telling.{told_from, heard_in, nothing_heard, Entered};
+
+use crate::indices::PathIndices;
+use crate::refusal::Refusal;
+use crate::table::fits;
+use clock::Cluster;
+use frame::{Turn, VALUE_LENGTH, Values, put_value, value};
+
+/// What a node tells in its turn: for each path without it, of as many nodes as the round's place in its cycle, what its
+/// table holds, in rising order of the paths as they are read from the last node to the first. A frame is written of it.
+#[derive(Clone, Copy, PartialEq, Eq, Debug)]
+pub struct Telling<'a> {
+    turn: Turn,
+    table: &'a [u32],
+}
+
+impl<'a> Telling<'a> {
+    /// What the sender of this turn tells from the table that it has from the round before. A table of another length than
+    /// the cluster needs is refused, 10 at the length needed; then a sender that is past the cluster, 11 at 0.
+    pub fn new(turn: Turn, table: &'a [u32]) -> Result<Telling<'a>, Refusal>
+        ensures { ByRows (unfit turn.cluster table.now ∷ past turn.cluster turn.sender ∷ []) (λ e. e) (λ telling. (telling.turn ≡ turn) × (telling.table.now ≡ table.now)) result }
+    {
+        fits(&turn.cluster, table)?;
+        known(&turn)?;
+        Ok(Telling { turn, table })
+    }
+}
+
+/// The values of the paths in their order, and 0 at each index past the last path.
+impl Values for Telling<'_> {
+    ghost value = { λ telling. slice_index (told_from telling.turn telling.table.now) };
+
+    fn fill(self, payload: &mut [u8]) {
+        fill_from(&self.turn, self.table, payload);
+    }
+}
+
+/// Enters a payload that was heard of a node in its turn into the table that is written in this round: for the node in front
+/// of each path that it told of the value, and 0 for those that the payload has no value for. All other entries stay as they
+/// were. A table of another length than the cluster needs is refused, 10 at the length needed; then a sender that is past the
+/// cluster, 11 at 0; the table is then left as it was.
+pub fn enter_heard(turn: &Turn, payload: &[u8], written: &mut [u32]) -> Result<(), Refusal>
+    ensures answer { ByRows (unfit turn.now.cluster written.old ∷ past turn.now.cluster turn.now.sender ∷ []) (λ e. e) (λ _. Unit {0}) result }
+    ensures table { MatchResult result (λ _. Entered turn.now (heard_in turn.now payload.now) written.old written.new) (λ _. written.new ≡ written.old) }
+{
+    fits(&turn.cluster, written)?;
+    known(turn)?;
+    put_heard(turn, payload, written);
+    Ok(())
+}
+
+/// Enters that nothing was heard of a node in its turn: 0 for the node in front of each path that it was to tell of. Refusals
+/// are those of `enter_heard`.
+pub fn enter_silence(turn: &Turn, written: &mut [u32]) -> Result<(), Refusal>
+    ensures answer { ByRows (unfit turn.now.cluster written.old ∷ past turn.now.cluster turn.now.sender ∷ []) (λ e. e) (λ _. Unit {0}) result }
+    ensures table { MatchResult result (λ _. Entered turn.now (nothing_heard turn.now) written.old written.new) (λ _. written.new ≡ written.old) }
+{
+    enter_heard(turn, &[], written)
+}
+
+/// Enters what a node tells in its own turn: for itself in front of each path what its table holds for the path, which is what
+/// it sends. The table that is read is looked at first, then the one that is written; refusals are else those of `enter_heard`.
+pub fn enter_own(turn: &Turn, read: &[u32], written: &mut [u32]) -> Result<(), Refusal>
+    ensures answer { ByRows (unfit turn.now.cluster read.now ∷ unfit turn.now.cluster written.old ∷ past turn.now.cluster turn.now.sender ∷ []) (λ e. e) (λ _. Unit {0}) result }
+    ensures table { MatchResult result (λ _. Entered turn.now (told_from turn.now read.now) written.old written.new) (λ _. written.new ≡ written.old) }
+{
+    fits(&turn.cluster, read)?;
+    fits(&turn.cluster, written)?;
+    known(turn)?;
+    put_own(turn, read, written);
+    Ok(())
+}
+
+// Fills a payload with what a table holds for the paths.
+fn fill_from(turn: &Turn, table: &[u32], payload: &mut [u8])
+    ensures payload { payload.new ≡ filled (slice_index (told_from turn.now table.now)) payload.old }
+    ensures fit { FirstFit (slice_index (told_from turn.now table.now)) (length payload.old / value_length) }
+{
+    let mut indices = PathIndices::of(turn);
+    for place in 0..payload.len() / VALUE_LENGTH {
+        let value = held_at(table, indices.next());
+        put_value(payload, place, value);
+    }
+}
+
+// What a table holds at a number, or 0 where there is none.
+fn held_at(table: &[u32], index: Option<usize>) -> u32
+    ensures { MatchOption index (result ≡ 0) (λ index. result ≡ slice_index table.now index) }
+{
+    index
+        .and_then(|index| table.get(index))
+        .copied()
+        .unwrap_or(0)
+}
+
+// Whether the sender of a turn is a node of the cluster.
+fn known(turn: &Turn) -> Result<(), Refusal>
+    ensures { ByRows (past turn.now.cluster turn.now.sender ∷ []) (λ e. e) (λ _. Unit {0}) result }
+{
+    if turn.sender as u64 >= turn.cluster.nodes() {
+        return Err(Refusal::Node { place: 0 });
+    }
+    Ok(())
+}
+
+// Enters the values of a payload.
+fn put_heard(turn: &Turn, payload: &[u8], written: &mut [u32])
+    requires known { turn.now.sender < turn.now.cluster.nodes }
+    requires fits { length written.old ≡ table_length_of turn.now.cluster }
+    ensures { Entered turn.now (heard_in turn.now payload.now) written.old written.new }
+{
+    let mut place = 0;
+    for index in PathIndices::of(turn) {
+        written[in_front(turn, index)] = value(payload, place).unwrap_or(0);
+        place += 1;
+    }
+}
+
+// Enters what a table holds.
+fn put_own(turn: &Turn, read: &[u32], written: &mut [u32])
+    requires known { turn.now.sender < turn.now.cluster.nodes }
+    requires read { length read.now ≡ table_length_of turn.now.cluster }
+    requires fits { length written.old ≡ table_length_of turn.now.cluster }
+    ensures { Entered turn.now (told_from turn.now read.now) written.old written.new }
+{
+    for index in PathIndices::of(turn) {
+        written[in_front(turn, index)] = read[index];
+    }
+}
+
+// The number of a path with the sender in front.
+fn in_front(turn: &Turn, index: usize) -> usize
+    requires { index ≤ 65536 }
+    ensures { result ≡ index * turn.now.cluster.nodes + turn.now.sender }
+{
+    index * turn.cluster.nodes() as usize + turn.sender as usize
+}
