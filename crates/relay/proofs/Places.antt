@@ -10,7 +10,9 @@ use Rattle.std.proofs.lemmas.Bool.{cases_lt, lt-ltb, le-ltb, lt-leb, leb-false, 
 use Rattle.std.proofs.lemmas.Bool.Decides.{nat_tests}
 use Rattle.std.proofs.lemmas.Option.{none-some, same_Some}
 use Rattle.relay.specs.Paths.{AllBelow, index_of, is_path, stands_in}
-use Rattle.relay.specs.Tables.{wrong_at, first_wrong}
+use Rattle.relay.specs.Tables.{wrong_at, first_wrong, no_path, table_length_of}
+use Rattle.midpoint.specs.Refusals.{first_applying}
+use Rattle.clock.specs.declared.limits.Cluster.{Cluster}
 use Rattle.relay.specs.Theorems.{PathsAreTaken}
 use Rattle.relay.proofs.Numbers.{index_below, index_small}
 
@@ -147,3 +149,13 @@ taken c row = (
       let some = held.not_empty in
       grind (arith, nat_tests, right, short, some),
 )
+
+-- so the nodes of a row that is not turned away are of the cluster, they are few, and its number is one of the table's
+pub taken_below : (c : Cluster) (row : List ℕ) → first_applying (no_path c row) ≡ None → AllBelow c.nodes row
+taken_below c row none = let right : length row ≤ first_wrong c.nodes row = grind (arith, nat_tests) in none_wrong_below c.nodes row right
+
+pub taken_short : (c : Cluster) (row : List ℕ) → first_applying (no_path c row) ≡ None → length row ≤ c.faults + 1
+taken_short c row none = grind (arith, nat_tests)
+
+pub taken_within : (c : Cluster) (row : List ℕ) → first_applying (no_path c row) ≡ None → index_of c.nodes row < table_length_of c
+taken_within c row none = index_within c.nodes c.faults row (taken_below c row none) (omega (arith, c.enough)) (taken_short c row none)

@@ -5,18 +5,20 @@ use Rattle.std.proofs.lemmas.Nat.Bits.{bit_at_ones, bit_at_set_same, bit_at_set_
 use Rattle.relay.specs.Nodes.{among, added}
 use Rattle.relay.specs.declared.nodes.NodeSet.{NodeSet}
 
-pub all_among : (set : NodeSet) (node : ℕ) → set.bits ≡ 65535 → among set node ≡ nat_lt node 16
-all_among set node e =
+pub all_among : (node : ℕ) → among (record { bits = 65535 }) node ≡ nat_lt node 16
+all_among node =
     elim (cases_lt node 16) [
-      | inl h ↦ let bit : 65535 / 2 ^ node % 2 ≡ 1 = bit_at_ones 16 node h in rw (e, lt-ltb node 16 h, bit)
+      | inl h ↦ let bit : 65535 / 2 ^ node % 2 ≡ 1 = bit_at_ones 16 node h in rw (lt-ltb node 16 h, bit)
       | inr h ↦ rw (le-ltb node 16 h)
     ]
 
-pub one_more : (set : NodeSet) (node : ℕ) (new : NodeSet) (other : ℕ) → node < 16 → new.bits ≡ bit_or set.bits (1 * 2 ^ node % 65536) → among new other ≡ added (among set) node other
-one_more set node new other h e =
+pub one_more : (set : NodeSet) (node other : ℕ) → node < 16 → among (record { bits = bit_or set.bits (1 * 2 ^ node % 65536) }) other ≡ added (among set) node other
+one_more set node other h =
     elim (cases_eq node other) [
-      | inl same ↦ let bit : bit_or set.bits (1 * 2 ^ node % 65536) / 2 ^ node % 2 ≡ 1 = bit_at_set_same w16 set.bits node h in
-          rw (e, sym same, lt-ltb node 16 h, bit, eq-eqb node node refl)
-      | inr differs ↦ let bit : bit_or set.bits (1 * 2 ^ node % 65536) / 2 ^ other % 2 ≡ set.bits / 2 ^ other % 2 = bit_at_set_other w16 set.bits node h other (λ same. differs (sym same)) in
-          rw (e, lt-ltb node 16 h, bit, ne_eqb node other differs)
+      | inl same ↦
+          let bit : bit_or set.bits (1 * 2 ^ node % 65536) / 2 ^ node % 2 ≡ 1 = bit_at_set_same w16 set.bits node h in
+          rw (sym same, lt-ltb node 16 h, bit, eq-eqb node node refl)
+      | inr differs ↦
+          let bit : bit_or set.bits (1 * 2 ^ node % 65536) / 2 ^ other % 2 ≡ set.bits / 2 ^ other % 2 = bit_at_set_other w16 set.bits node h other (λ same. differs (sym same)) in
+          rw (lt-ltb node 16 h, bit, ne_eqb node other differs)
     ]

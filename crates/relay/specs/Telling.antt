@@ -1,10 +1,12 @@
 -- What a node tells in its turn, and what is entered of what it told. Assumes nothing: these are definitions.
-use Rattle.std.specs.Prelude.{◌≡◌, ℕ, true, List, ◌∷◌, length, map, slice_index}
+use Rattle.std.specs.Prelude.{◌≡◌, ℕ, true, List, [], ◌∷◌, length, map, slice_index}
+use Rattle.midpoint.specs.Refusals.{Row}
 use Rattle.frame.specs.Layout.{place_in_cycle, values_in}
 use Rattle.frame.specs.Writing.{first_values}
 use Rattle.frame.specs.declared.turn.Turn.{Turn}
 use Rattle.relay.specs.Paths.{index_of, is_told, paths_without}
-use Rattle.relay.specs.Tables.{held_for}
+use Rattle.relay.specs.Tables.{held_for, unfit, past}
+use Rattle.relay.specs.declared.refusal.Refusal.{Refusal}
 
 -- In its turn a node tells of the paths that do not hold it, of as many nodes as the place of its round in the cycle says, in rising order as they are read
 -- from the last node to the first. In a cycle's first round that is the path of no nodes, which stands for its own value.
@@ -25,6 +27,11 @@ heard_in t payload = first_values (slice_index (values_in payload)) (length (pat
 
 abbrev pub nothing_heard : Turn → List ℕ
 nothing_heard t = map (λ path. 0) (paths_of t)
+
+-- Why a node tells nothing from a table, and why nothing that it told is entered into one: the table has another length than the cluster needs; the node is past
+-- the cluster.
+abbrev pub untold : Turn → List ℕ → List (Row Refusal)
+untold t table = unfit t.cluster table ∷ past t.cluster t.sender ∷ []
 
 -- A table into which values that a node told were entered: for the node in front of each of the paths, in their order, it holds the value; and all other
 -- entries are as before.

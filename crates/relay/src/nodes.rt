@@ -19,6 +19,7 @@ impl NodeSet {
     }
 
     /// The set of all nodes.
+    #[tactic(auto, using(crate::proofs::Sets::all_among))]
     pub fn all() -> NodeSet
         ensures { (node : ℕ) → among result node ≡ nat_lt node 16 }
     {
@@ -33,6 +34,7 @@ impl NodeSet {
     }
 
     /// The set with one node more; one past 15 is left out.
+    #[tactic(auto, using(crate::proofs::Sets::one_more))]
     pub fn with(self, node: usize) -> NodeSet
         ensures { (other : ℕ) → among result other ≡ added (among self) node other }
     {

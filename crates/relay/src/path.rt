@@ -9,18 +9,26 @@ use crate::refusal::Refusal;
 use clock::Cluster;
 
 // The number of a path that the cluster's tables have, or why a row of nodes is none.
-#[tactic(auto, using(crate::proofs::Places::none_wrong_below, crate::proofs::Places::none_wrong, crate::proofs::Places::some_wrong))]
+#[tactic(auto, using(crate::proofs::Places::taken_below, crate::proofs::Places::taken_short, crate::proofs::Places::taken_within))]
 pub(crate) fn path_index(cluster: &Cluster, row: &[u8]) -> Result<usize, Refusal>
     ensures { ByRows (no_path cluster.now row.now) (λ e. e) (λ index. (index ≡ index_of cluster.now.nodes row.now) × (index < table_length_of cluster.now)) result }
+{
+    known_path(cluster, row)?;
+    Ok(index_of(cluster.nodes() as usize, row))
+}
+
+// Whether a row of nodes is a path that the cluster's tables have.
+#[tactic(auto, using(crate::proofs::Places::some_wrong, crate::proofs::Places::none_wrong))]
+fn known_path(cluster: &Cluster, row: &[u8]) -> Result<(), Refusal>
+    ensures { ByRows (no_path cluster.now row.now) (λ e. e) (λ _. Unit {0}) result }
 {
     let length = row.len();
     if length == 0 || length as u64 > cluster.faults() + 1 {
         return Err(Refusal::PathLength { length });
     }
-    let nodes = cluster.nodes() as usize;
-    match first_wrong(nodes, row) {
+    match first_wrong(cluster.nodes() as usize, row) {
         Some(place) => Err(Refusal::Node { place }),
-        None => Ok(index_of(nodes, row)),
+        None => Ok(()),
     }
 }
 

@@ -5,7 +5,7 @@ ghost use Rattle.midpoint.specs.Refusals.{ByRows};
 ghost use Rattle.frame.specs.Layout.{value_length};
 ghost use Rattle.frame.specs.Writing.{FirstFit, filled};
 ghost use Rattle.relay.specs.Tables.{table_length_of, unfit, past};
-ghost use Rattle.relay.specs.Telling.{told_from, heard_in, nothing_heard, Entered};
+ghost use Rattle.relay.specs.Telling.{told_from, untold, heard_in, nothing_heard, Entered};
 
 use crate::indices::PathIndices;
 use crate::refusal::Refusal;
@@ -25,7 +25,7 @@ impl<'a> Telling<'a> {
     /// What the sender of this turn tells from the table that it has from the round before. A table of another length than
     /// the cluster needs is refused, 10 at the length needed; then a sender that is past the cluster, 11 at 0.
     pub fn new(turn: Turn, table: &'a [u32]) -> Result<Telling<'a>, Refusal>
-        ensures { ByRows (unfit turn.cluster table.now ∷ past turn.cluster turn.sender ∷ []) (λ e. e) (λ telling. (telling.turn ≡ turn) × (telling.table.now ≡ table.now)) result }
+        ensures { ByRows (untold turn table.now) (λ e. e) (λ telling. (telling.turn ≡ turn) × (telling.table.now ≡ table.now)) result }
     {
         fits(&turn.cluster, table)?;
         known(&turn)?;
@@ -47,7 +47,7 @@ impl Values for Telling<'_> {
 /// were. A table of another length than the cluster needs is refused, 10 at the length needed; then a sender that is past the
 /// cluster, 11 at 0; the table is then left as it was.
 pub fn enter_heard(turn: &Turn, payload: &[u8], written: &mut [u32]) -> Result<(), Refusal>
-    ensures answer { ByRows (unfit turn.now.cluster written.old ∷ past turn.now.cluster turn.now.sender ∷ []) (λ e. e) (λ _. Unit {0}) result }
+    ensures answer { ByRows (untold turn.now written.old) (λ e. e) (λ _. Unit {0}) result }
     ensures table { MatchResult result (λ _. Entered turn.now (heard_in turn.now payload.now) written.old written.new) (λ _. written.new ≡ written.old) }
 {
     fits(&turn.cluster, written)?;
@@ -58,8 +58,9 @@ pub fn enter_heard(turn: &Turn, payload: &[u8], written: &mut [u32]) -> Result<(
 
 /// Enters that nothing was heard of a node in its turn: 0 for the node in front of each path that it was to tell of. Refusals
 /// are those of `enter_heard`.
+#[tactic(auto, using(crate::proofs::Entering::nothing_in))]
 pub fn enter_silence(turn: &Turn, written: &mut [u32]) -> Result<(), Refusal>
-    ensures answer { ByRows (unfit turn.now.cluster written.old ∷ past turn.now.cluster turn.now.sender ∷ []) (λ e. e) (λ _. Unit {0}) result }
+    ensures answer { ByRows (untold turn.now written.old) (λ e. e) (λ _. Unit {0}) result }
     ensures table { MatchResult result (λ _. Entered turn.now (nothing_heard turn.now) written.old written.new) (λ _. written.new ≡ written.old) }
 {
     enter_heard(turn, &[], written)
@@ -68,7 +69,7 @@ pub fn enter_silence(turn: &Turn, written: &mut [u32]) -> Result<(), Refusal>
 /// Enters what a node tells in its own turn: for itself in front of each path what its table holds for the path, which is what
 /// it sends. The table that is read is looked at first, then the one that is written; refusals are else those of `enter_heard`.
 pub fn enter_own(turn: &Turn, read: &[u32], written: &mut [u32]) -> Result<(), Refusal>
-    ensures answer { ByRows (unfit turn.now.cluster read.now ∷ unfit turn.now.cluster written.old ∷ past turn.now.cluster turn.now.sender ∷ []) (λ e. e) (λ _. Unit {0}) result }
+    ensures answer { ByRows (unfit turn.now.cluster read.now ∷ untold turn.now written.old) (λ e. e) (λ _. Unit {0}) result }
     ensures table { MatchResult result (λ _. Entered turn.now (told_from turn.now read.now) written.old written.new) (λ _. written.new ≡ written.old) }
 {
     fits(&turn.cluster, read)?;
