@@ -86,10 +86,9 @@ entered_all t value values count old new all are entered = record {
 -- a number that is reached in going through those of the paths is one of the table's, with the sender in front too
 pub record Reached (t : Turn) (yielded : List ℕ) (x : ℕ) (rest : List ℕ) : Type 0 where
   pub yields : Yields (indices_of t) yielded x rest
-  pub small : x ≤ 65536
   pub within : x < table_length_of t.cluster
   pub entry_within : t.sender < t.cluster.nodes → entry t x < table_length_of t.cluster
-  pub entry_small : table_length_of t.cluster ≤ 65536
+  pub few : table_length_of t.cluster ≤ 65536
 
 pub reached : (t : Turn) (yielded before rest : List ℕ) (x : ℕ) → yielded ++ before ≡ indices_of t → before ≡ x ∷ rest → Reached t yielded x rest
 reached t yielded before rest x whole is =
@@ -99,10 +98,9 @@ reached t yielded before rest x whole is =
     let longest : table_length_of t.cluster ≤ 65536 = power_small t.cluster.nodes (t.cluster.faults + 1) t.cluster.most (omega (arith, t.cluster.few)) in
     record {
       yields = next;
-      small = omega (arith, longest, index_within_table t x within);
       within = index_within_table t x within;
       entry_within = λ known. entry_within t x known within;
-      entry_small = longest;
+      few = longest;
     }
 
 pub entered_next : (t : Turn) (value : ℕ → ℕ) (yielded : List ℕ) (x : ℕ) (rest : List ℕ) (old new : List ℕ) (at v : ℕ) → t.sender < t.cluster.nodes →

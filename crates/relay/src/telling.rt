@@ -1,9 +1,9 @@
 //! What a node tells in its turn, and what is entered of what was told.
-ghost use Rattle.std.specs.Prelude.{◌≡◌, ◌+◌, ◌*◌, ◌/◌, ◌<◌, ◌≤◌, ◌∷◌, [], length, slice_index, MatchOption};
+ghost use Rattle.std.specs.Prelude.{◌≡◌, ◌+◌, ◌*◌, ◌/◌, ◌<◌, ◌≤◌, ◌∷◌, [], length, slice_index, slice_set, cond, is_ok, OnOk, MatchOption};
 ghost use Rattle.std.specs.Result.{MatchResult};
 ghost use Rattle.midpoint.specs.Refusals.{ByRows};
-ghost use Rattle.frame.specs.Layout.{value_length};
-ghost use Rattle.frame.specs.Writing.{FirstFit, filled};
+ghost use Rattle.frame.specs.Layout.{value_length, value_count_of, frame_length_of};
+ghost use Rattle.frame.specs.Writing.{too_short, FirstFit, filled, with_frame};
 ghost use Rattle.relay.specs.Tables.{table_length_of, unfit, past};
 ghost use Rattle.relay.specs.Telling.{told_from, untold, heard_in, nothing_heard, Entered};
 
@@ -30,6 +30,16 @@ impl<'a> Telling<'a> {
         fits(&turn.cluster, table)?;
         known(&turn)?;
         Ok(Telling { turn, table })
+    }
+
+    /// Writes the frame of the turn into lent memory, and answers its length. Memory that is too short is refused, 7 at its
+    /// length, and is left as it was; what lies behind the frame in longer memory is kept.
+    pub fn write(self, memory: &mut [u8]) -> Result<usize, frame::Refusal>
+        ensures answer { ByRows (too_short self.entry.turn memory.old) (λ e. e) (λ length. length ≡ frame_length_of self.entry.turn) result }
+        ensures memory { memory.new ≡ cond (is_ok result) (with_frame self.entry.turn (slice_index (told_from self.entry.turn self.entry.table.now)) memory.old) memory.old }
+        ensures fit { OnOk result (FirstFit (slice_index (told_from self.entry.turn self.entry.table.now)) (value_count_of self.entry.turn)) }
+    {
+        self.turn.write(self, memory)
     }
 }
 
@@ -119,7 +129,7 @@ fn put_heard(turn: &Turn, payload: &[u8], written: &mut [u32])
 {
     let mut place = 0;
     for index in PathIndices::of(turn) {
-        written[in_front(turn, index)] = value(payload, place).unwrap_or(0);
+        put(turn, index, value(payload, place).unwrap_or(0), written);
         place += 1;
     }
 }
@@ -132,14 +142,15 @@ fn put_own(turn: &Turn, read: &[u32], written: &mut [u32])
     ensures { Entered turn.now (told_from turn.now read.now) written.old written.new }
 {
     for index in PathIndices::of(turn) {
-        written[in_front(turn, index)] = read[index];
+        put(turn, index, read[index], written);
     }
 }
 
-// The number of a path with the sender in front.
-fn in_front(turn: &Turn, index: usize) -> usize
-    requires { index ≤ 65536 }
-    ensures { result ≡ index * turn.now.cluster.nodes + turn.now.sender }
+// Enters a value for the sender in front of the path with this number.
+fn put(turn: &Turn, index: usize, value: u32, written: &mut [u32])
+    requires { index * turn.now.cluster.nodes + turn.now.sender < length written.old }
+    ensures { written.new ≡ slice_set written.old (index * turn.now.cluster.nodes + turn.now.sender) value }
 {
-    index * turn.cluster.nodes() as usize + turn.sender as usize
+    let entry = index * turn.cluster.nodes() as usize + turn.sender as usize;
+    written[entry] = value;
 }
