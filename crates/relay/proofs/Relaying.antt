@@ -1,12 +1,13 @@
 -- What is held of what was told. Assumes nothing.
-use Rattle.std.proofs.Common.{◌≡◌, ℕ, zero, suc, ◌+◌, ◌^◌, ◌<◌, Bool, true, not, ◌&&◌, nat_lt, List, [], ◌∷◌, length, map, get_or, slice_index, inl, inr, sym, refl, ap, ◌∙◌, arith}
+use Rattle.std.proofs.Common.{◌≡◌, ℕ, zero, suc, ◌+◌, ◌^◌, ◌<◌, Bool, true, false, not, ◌&&◌, ◌||◌, ◌==◌, nat_lt, List, [], ◌∷◌, length, map, get_or, slice_index, inl, inr, sym, refl, ap, ◌∙◌, arith}
 use Rattle.std.specs.List.{Contains, filter, range_with_len}
 use Rattle.std.proofs.Math.Nat.{pow-suc, one-le-pow}
-use Rattle.std.proofs.lemmas.Bool.{cases_Bool, and_parts, and_from, ltb-true, lt-ltb}
+use Rattle.std.proofs.lemmas.Bool.{cases_Bool, or_parts, not-true, eqb-true, eqb-false, true≢false, false≢true, and_parts, and_from, ltb-true, lt-ltb}
 use Rattle.std.proofs.lemmas.Bool.Decides.{nat_tests}
 use Rattle.std.proofs.lemmas.Nat.{same_from_place, mul-le}
-use Rattle.std.proofs.lemmas.List.{get_or-map, length-drop}
+use Rattle.std.proofs.lemmas.List.{get_or-set_same, get_or-map, length-drop}
 use Rattle.std.proofs.lemmas.List.Elements.{All-cons, All-nil, All-contains, All-filter, filter_passes}
+use Rattle.clock.specs.declared.limits.Cluster.{Cluster}
 use Rattle.frame.specs.Layout.{value_count_of, frame_length_of, payload_of, values_in}
 use Rattle.frame.specs.Writing.{first_values}
 use Rattle.frame.specs.declared.turn.Turn.{Turn}
@@ -16,7 +17,7 @@ use Rattle.frame.proofs.Frames.{received_whole}
 use Rattle.relay.specs.Paths.{AllBelow, stands_in, is_path, is_told, index_of, rows}
 use Rattle.relay.specs.Tables.{held_for}
 use Rattle.relay.specs.Telling.{paths_of, IsTold, told_from, heard_in, Entered}
-use Rattle.relay.specs.Theorems.{PathsAreInOrder, ValuesAreAsMany, Relays, HoldsWhatItTells, SilenceIsZero, OthersStay, FirstIsOwn, TablesAreWithin}
+use Rattle.relay.specs.Theorems.{IsLonger, turn_in, EnteredAll, RoundIsWhole, PathsAreInOrder, ValuesAreAsMany, Relays, HoldsWhatItTells, SilenceIsZero, OthersStay, FirstIsOwn, TablesAreWithin}
 use Rattle.relay.proofs.Lists.{list_by_index}
 use Rattle.relay.proofs.Numbers.{index_below, power_small, rows_long}
 use Rattle.relay.proofs.Order.{listed}
@@ -57,6 +58,13 @@ only t path in_list =
       without_sender = All-contains (λ row. told row ≡ true) (paths_of t) path (filter_passes told all) in_list;
     }
 
+shorter_path : (t : Turn) (path : List ℕ) → IsLonger t path → IsTold t path
+shorter_path t path longer =
+    let n = t.cluster.nodes in
+    let (front, is) = and_parts (nat_lt t.sender n && not (stands_in t.sender path)) (is_path n path) longer.with_sender in
+    let (within, free) = and_parts (nat_lt t.sender n) (not (stands_in t.sender path)) front in
+    record { as_long = longer.as_long; without_sender = and_from (is_path n path) (not (stands_in t.sender path)) is free }
+
 longer_path : (t : Turn) (path : List ℕ) → t.sender < t.cluster.nodes → IsTold t path → is_path t.cluster.nodes (t.sender ∷ path) ≡ true
 longer_path t path known told =
     let n = t.cluster.nodes in
@@ -67,7 +75,7 @@ pub paths_in_order : PathsAreInOrder
 paths_in_order t = record {
   each = λ path. (each t path, only t path);
   rising = indices_rise t;
-  in_front = λ known path told. longer_path t path known told;
+  in_front = λ known path. (λ told. record { as_long = told.as_long; with_sender = longer_path t path known told }, shorter_path t path);
   within = λ known path told.
       let n = t.cluster.nodes in
       let (is, free) = and_parts (is_path n path) (not (stands_in t.sender path)) told.without_sender in
@@ -118,8 +126,34 @@ others_stay t values old new known entered other row within differs =
     let n = t.cluster.nodes in
     entered.kept (index_of n (other ∷ row)) (λ path told same. differs (same_from_place (index_of n row) other (index_of n path) t.sender n within known same).1)
 
-pub first_is_own : FirstIsOwn
-first_is_own t table first = rw first refl
+-- what was entered of a node stays when others are entered, so in the end it is there of each
+stays : (c : Cluster) (round : ℕ) (values : ℕ → List ℕ) (senders old new : List ℕ) → is_path c.nodes senders ≡ true → EnteredAll c round values senders old new →
+    (node : ℕ) → node < c.nodes → stands_in node senders ≡ false → (row : List ℕ) → held_for c new (node ∷ row) ≡ held_for c old (node ∷ row)
+stays c round values [] old new path same node known free row = ap (λ table. held_for c table (node ∷ row)) same
+stays c round values (sender ∷ senders) old new path (between, entered, rest) node known free row =
+    let (front, behind) = and_parts (nat_lt sender c.nodes && not (stands_in sender senders)) (is_path c.nodes senders) path in
+    let (within, apart) = and_parts (nat_lt sender c.nodes) (not (stands_in sender senders)) front in
+    let (differs, others) = or_parts (sender == node) (stands_in node senders) free in
+    stays c round values senders between new behind rest node known others row
+    ∙ others_stay (turn_in c round sender) (values sender) old between (ltb-true sender c.nodes within) entered node row known (λ same. eqb-false sender node differs (sym same))
+
+other_stands : (a b : Bool) → a ≡ false → (a || b) ≡ true → b ≡ true
+other_stands true b fails holds = absurd (true≢false fails)
+other_stands false b fails holds = holds
+
+pub round_is_whole : RoundIsWhole
+round_is_whole c round values [] old new path same sender stands = absurd (false≢true stands)
+round_is_whole c round values (first ∷ senders) old new path (between, entered, rest) sender stands =
+    let (front, behind) = and_parts (nat_lt first c.nodes && not (stands_in first senders)) (is_path c.nodes senders) path in
+    let (within, apart) = and_parts (nat_lt first c.nodes) (not (stands_in first senders)) front in
+    let free = not-true (stands_in first senders) apart in
+    let kept : (row : List ℕ) → held_for c new (first ∷ row) ≡ held_for c between (first ∷ row) = λ row. stays c round values senders between new behind rest first (ltb-true first c.nodes within) free row in
+    let here : map (λ path. held_for c new (first ∷ path)) (paths_of (turn_in c round first)) ≡ values first =
+    (λ i. map (λ path. kept path i) (paths_of (turn_in c round first))) ∙ entered.told in
+    elim (cases_Bool (first == sender)) [
+      | inl same ↦ rw (eqb-true first sender same) at here
+      | inr differs ↦ round_is_whole c round values senders between new behind rest sender (other_stands (first == sender) (stands_in sender senders) differs stands)
+    ]
 
 pub tables_within : TablesAreWithin
 tables_within c = record {
@@ -131,3 +165,8 @@ tables_within c = record {
   longest = λ nodes faults. rw (nodes, faults) refl;
   constant = refl;
 }
+
+pub first_is_own : FirstIsOwn
+first_is_own t value table first long =
+    let some : 0 < length table = omega (arith, long, (tables_within t.cluster).least) in
+    rw first (ap (λ told. told ∷ []) (get_or-set_same table 0 value 0 some))

@@ -4,6 +4,8 @@ use Rattle.midpoint.specs.Refusals.{Row}
 use Rattle.frame.specs.Layout.{place_in_cycle, values_in}
 use Rattle.frame.specs.Writing.{first_values}
 use Rattle.frame.specs.declared.turn.Turn.{Turn}
+use Rattle.frame.specs.declared.reading.Reception.{Reception}
+use Rattle.frame.specs.declared.reading.Reception.TheVariants.{Whole, TurnedAway}
 use Rattle.relay.specs.Paths.{index_of, is_told, paths_without}
 use Rattle.relay.specs.Tables.{held_for, unfit, past}
 use Rattle.relay.specs.declared.refusal.Refusal.{Refusal}
@@ -39,3 +41,8 @@ pub record Entered (t : Turn) (values old new : List ℕ) : Type 0 where
   pub told : map (λ path. held_for t.cluster new (t.sender ∷ path)) (paths_of t) ≡ values
   pub kept : (index : ℕ) → ((path : List ℕ) → IsTold t path → index ≡ index_of t.cluster.nodes (t.sender ∷ path) → ⊥) → slice_index new index ≡ slice_index old index
   pub same_length : length new ≡ length old
+
+-- What becomes of a frame that came in its slot, in the table that is written: its values are entered, or nothing, where it is turned away.
+abbrev pub EntersReception : Turn → Reception → List ℕ → List ℕ → Type 0
+EntersReception t (Whole ahead payload) old new = Entered t (heard_in t payload.now) old new
+EntersReception t (TurnedAway refusal) old new = Entered t (nothing_heard t) old new

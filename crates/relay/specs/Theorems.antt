@@ -10,10 +10,9 @@ use Rattle.frame.specs.Writing.{FirstFit}
 use Rattle.frame.specs.Theorems.{written_frame, Taken}
 use Rattle.frame.specs.declared.turn.Turn.{Turn}
 use Rattle.frame.specs.declared.reading.Reception.{Reception}
-use Rattle.frame.specs.declared.reading.Reception.TheVariants.{Whole, TurnedAway}
-use Rattle.relay.specs.Paths.{AllBelow, is_path, index_of, rows}
-use Rattle.relay.specs.Tables.{table_length_of, held_for, no_path}
-use Rattle.relay.specs.Telling.{paths_of, IsTold, told_from, heard_in, nothing_heard, Entered}
+use Rattle.relay.specs.Paths.{AllBelow, stands_in, is_path, index_of, rows}
+use Rattle.relay.specs.Tables.{table_length_of, held_for, with_entry, no_path}
+use Rattle.relay.specs.Telling.{paths_of, IsTold, told_from, heard_in, nothing_heard, Entered, EntersReception}
 use Rattle.relay.specs.declared.table.TheConstants.{MAX_TABLE_LENGTH}
 
 -- A row of so many nodes of a cluster.
@@ -38,12 +37,17 @@ pub record Indexed (n count : ℕ) : Type 0 where
 abbrev pub IndexIsOrder : Type 0
 IndexIsOrder = (n count : ℕ) → Indexed n count
 
+-- A row of as many nodes as the place of the round in its cycle which is a path with the sender in front.
+pub record IsLonger (t : Turn) (path : List ℕ) : Type 0 where
+  pub as_long : length path ≡ place_in_cycle t.cluster t.round
+  pub with_sender : is_path t.cluster.nodes (t.sender ∷ path) ≡ true
+
 -- A node tells of each path that does not hold it and has as many nodes as the place of its round in the cycle, and of no other row, of each once, in rising
--- order. With it in front each is a path again, with one node more, that its cluster's tables have.
+-- order. These are the rows that are a path with it in front, and such a path, which has one node more, has its entry in its cluster's tables.
 pub record InOrder (t : Turn) : Type 0 where
   pub each : (path : List ℕ) → IsTold t path ↔ Contains (paths_of t) path
   pub rising : IsStrictlyIncreasing (map (index_of t.cluster.nodes) (paths_of t))
-  pub in_front : t.sender < t.cluster.nodes → (path : List ℕ) → IsTold t path → is_path t.cluster.nodes (t.sender ∷ path) ≡ true
+  pub in_front : t.sender < t.cluster.nodes → (path : List ℕ) → IsTold t path ↔ IsLonger t path
   pub within : t.sender < t.cluster.nodes → (path : List ℕ) → IsTold t path → index_of t.cluster.nodes (t.sender ∷ path) < table_length_of t.cluster
 
 abbrev pub PathsAreInOrder : Type 0
@@ -56,11 +60,6 @@ pub record AsMany (t : Turn) : Type 0 where
 
 abbrev pub ValuesAreAsMany : Type 0
 ValuesAreAsMany = (t : Turn) → t.sender < t.cluster.nodes → AsMany t
-
--- What becomes of a frame that came in its slot, in the table that is written: its values are entered, or nothing, where it is turned away.
-abbrev pub EntersReception : Turn → Reception → List ℕ → List ℕ → Type 0
-EntersReception t (Whole ahead payload) old new = Entered t (heard_in t payload.now) old new
-EntersReception t (TurnedAway refusal) old new = Entered t (nothing_heard t) old new
 
 -- Relaying: where a node wrote its frame from its table, and another one received the frame in its turn and entered what it heard, that one's table
 -- holds for the node in front of each path that does not hold it what the node's table holds for the path.
@@ -87,9 +86,27 @@ OthersStay =
     (t : Turn) (values old new : List ℕ) → t.sender < t.cluster.nodes → Entered t values old new →
     (other : ℕ) (row : List ℕ) → other < t.cluster.nodes → (other ≡ t.sender → ⊥) → held_for t.cluster new (other ∷ row) ≡ held_for t.cluster old (other ∷ row)
 
--- In a cycle's first round a node tells its own value and nothing else.
+-- So a round is whole: where what several nodes told in it was entered, each node's once and one after the other, in any order, the table holds of each of
+-- them what was entered. If they are all nodes, nothing stands any more at a path of the round's length that stood there before.
+abbrev pub turn_in : Cluster → ℕ → ℕ → Turn
+turn_in c round sender = record { cluster = c; sender = sender; round = round }
+
+abbrev pub EnteredAll : Cluster → ℕ → (ℕ → List ℕ) → List ℕ → List ℕ → List ℕ → Type 0
+EnteredAll c round values [] old new = new ≡ old
+EnteredAll c round values (sender ∷ senders) old new =
+    (between : List ℕ) × Entered (turn_in c round sender) (values sender) old between × EnteredAll c round values senders between new
+
+abbrev pub RoundIsWhole : Type 0
+RoundIsWhole =
+    (c : Cluster) (round : ℕ) (values : ℕ → List ℕ) (senders old new : List ℕ) → is_path c.nodes senders ≡ true → EnteredAll c round values senders old new →
+    (sender : ℕ) → stands_in sender senders ≡ true →
+    map (λ path. held_for c new (sender ∷ path)) (paths_of (turn_in c round sender)) ≡ values sender
+
+-- In a cycle's first round a node tells the value that was put into its table as the cycle began, and nothing else.
 abbrev pub FirstIsOwn : Type 0
-FirstIsOwn = (t : Turn) (table : List ℕ) → place_in_cycle t.cluster t.round ≡ 0 → told_from t table ≡ held_for t.cluster table [] ∷ []
+FirstIsOwn =
+    (t : Turn) (value : ℕ) (table : List ℕ) → place_in_cycle t.cluster t.round ≡ 0 → length table ≡ table_length_of t.cluster →
+    told_from t (with_entry t.cluster [] value table) ≡ value ∷ []
 
 -- What is not turned away as no path is a path, of one node or more, and of no more than a cycle has rounds; and no such path is turned away.
 pub record IsHeldPath (c : Cluster) (row : List ℕ) : Type 0 where

@@ -21,4 +21,4 @@ pub mod theorems;
 pub use nodes::NodeSet;
 pub use refusal::Refusal;
 pub use table::{MAX_TABLE_LENGTH, begin_cycle, held, table_length};
-pub use telling::{Telling, enter_heard, enter_own, enter_silence};
+pub use telling::{Telling, enter_heard, enter_own, enter_reception, enter_silence};

@@ -4,8 +4,7 @@ ghost use Rattle.relay.specs.Tables.{code_of};
 
 use midpoint::Code;
 
-/// Why nothing is looked up or entered. Where several apply it is the first of this order; of two tables, of paths and
-/// of nodes the first.
+/// Why nothing is looked up, told or entered. Where several apply it is the first of this order.
 #[derive(Clone, Copy, PartialEq, Eq, Debug)]
 pub enum Refusal {
     /// A lent table has another length than the cluster needs, which is given.

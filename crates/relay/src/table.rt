@@ -19,8 +19,9 @@ pub fn table_length(cluster: &Cluster) -> usize
     (cluster.nodes() as usize).pow(cluster.faults() as u32 + 1)
 }
 
-/// What a table holds for a path, the node that told last standing first: what that node told in the round in which
-/// the table was written. A table of another length than the cluster needs is refused, 10 at the length needed; then
+/// What a table holds for a path, the node that told last standing first. For a path with a node more than the place of the
+/// round in which the table was written, it is what that node told in that round; a table does not say of which round it
+/// is, and for paths of other lengths what it answers means nothing. A table of another length than the cluster needs is refused, 10 at the length needed; then
 /// a path of no nodes or of more than a cycle has rounds, 11 at its length; then one with a node that is past the
 /// cluster or stood before, 11 at the first such.
 pub fn held(cluster: &Cluster, table: &[u32], path: &[u8]) -> Result<u32, Refusal>

@@ -5,13 +5,13 @@ ghost use Rattle.midpoint.specs.Refusals.{ByRows};
 ghost use Rattle.frame.specs.Layout.{value_length, value_count_of, frame_length_of};
 ghost use Rattle.frame.specs.Writing.{too_short, FirstFit, filled, with_frame};
 ghost use Rattle.relay.specs.Tables.{table_length_of, unfit, past};
-ghost use Rattle.relay.specs.Telling.{told_from, untold, heard_in, nothing_heard, Entered};
+ghost use Rattle.relay.specs.Telling.{told_from, untold, heard_in, nothing_heard, Entered, EntersReception};
 
 use crate::indices::PathIndices;
 use crate::refusal::Refusal;
 use crate::table::fits;
 use clock::Cluster;
-use frame::{Turn, VALUE_LENGTH, Values, put_value, value};
+use frame::{Reception, Turn, VALUE_LENGTH, Values, put_value, value};
 
 /// What a node tells in its turn: for each path without it, of as many nodes as the round's place in its cycle, what its
 /// table holds, in rising order of the paths as they are read from the last node to the first. A frame is written of it.
@@ -53,8 +53,8 @@ impl Values for Telling<'_> {
 }
 
 /// Enters a payload that was heard of a node in its turn into the table that is written in this round: for the node in front
-/// of each path that it told of the value, and 0 for those that the payload has no value for. All other entries stay as they
-/// were. A table of another length than the cluster needs is refused, 10 at the length needed; then a sender that is past the
+/// of each path that it told of the value, in their order, and 0 for those that the payload has no value for; values past the
+/// last path are left out. All other entries stay as they were. A table of another length than the cluster needs is refused, 10 at the length needed; then a sender that is past the
 /// cluster, 11 at 0; the table is then left as it was.
 pub fn enter_heard(turn: &Turn, payload: &[u8], written: &mut [u32]) -> Result<(), Refusal>
     ensures answer { ByRows (untold turn.now written.old) (λ e. e) (λ _. Unit {0}) result }
@@ -76,8 +76,24 @@ pub fn enter_silence(turn: &Turn, written: &mut [u32]) -> Result<(), Refusal>
     enter_heard(turn, &[], written)
 }
 
+/// Enters what became of a frame that came in the turn of its node: its payload if it was heard whole, and silence if it was
+/// turned away. Refusals are those of `enter_heard`.
+pub fn enter_reception(
+    turn: &Turn,
+    reception: Reception<'_>,
+    written: &mut [u32],
+) -> Result<(), Refusal>
+    ensures answer { ByRows (untold turn.now written.old) (λ e. e) (λ _. Unit {0}) result }
+    ensures table { MatchResult result (λ _. EntersReception turn.now reception.entry written.old written.new) (λ _. written.new ≡ written.old) }
+{
+    match reception {
+        Reception::Whole { payload, .. } => enter_heard(turn, payload, written),
+        Reception::TurnedAway(_) => enter_silence(turn, written),
+    }
+}
+
 /// Enters what a node tells in its own turn: for itself in front of each path what its table holds for the path, which is what
-/// it sends. The table that is read is looked at first, then the one that is written; refusals are else those of `enter_heard`.
+/// it sends. Refusals are those of `enter_heard`; either table may have another length than the cluster needs.
 pub fn enter_own(turn: &Turn, read: &[u32], written: &mut [u32]) -> Result<(), Refusal>
     ensures answer { ByRows (unfit turn.now.cluster read.now ∷ untold turn.now written.old) (λ e. e) (λ _. Unit {0}) result }
     ensures table { MatchResult result (λ _. Entered turn.now (told_from turn.now read.now) written.old written.new) (λ _. written.new ≡ written.old) }

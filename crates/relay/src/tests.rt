@@ -3,10 +3,11 @@
 use crate::nodes::NodeSet;
 use crate::refusal::Refusal;
 use crate::table::{MAX_TABLE_LENGTH, begin_cycle, held, table_length};
-use crate::telling::{Telling, enter_heard, enter_own, enter_silence};
+use crate::telling::{Telling, enter_heard, enter_own, enter_reception, enter_silence};
 use clock::Cluster;
 use frame::{Turn, Values, value};
 use midpoint::Code;
+use schedule::Received;
 use std::process::Abort;
 use std::test::Fail;
 
@@ -298,6 +299,32 @@ fn payloads_of_other_lengths(rt: HostRuntime) -> Result<(), Fail> {
         let mut table = [7; 16];
         assert_eq!(rt; enter_heard(&turn, &bytes[..length], &mut table), Ok(()));
         let wanted = [7, zero, 7, 7, 7, 7, 7, 7, 7, two, 7, 7, 7, three, 7, 7];
+        assert_eq!(rt; table, wanted);
+    }
+    Ok(())
+}
+
+// Heard whole, its payload is entered as `enter_heard` does it; turned away, zeros.
+#[test]
+fn what_becomes_of_frames(rt: HostRuntime) -> Result<(), Fail> {
+    let turn = four(1, 3)?;
+    let frame = [1, 3, 0, 0, 0, 4, 3, 2, 1, 5, 0, 0, 0, 0, 1, 0, 0, 9];
+    for (length, zero, two, three) in [(17, 0x01020304, 5, 256), (18, 0, 0, 0), (9, 0, 0, 0)] {
+        let reception = turn.receive(Received {
+            deviation: -3,
+            message: &frame[..length],
+        });
+        let mut table = [7; 16];
+        assert_eq!(rt; enter_reception(&turn, reception, &mut table), Ok(()));
+        let wanted = [7, zero, 7, 7, 7, 7, 7, 7, 7, two, 7, 7, 7, three, 7, 7];
+        assert_eq!(rt; table, wanted);
+        let mut short = [7; 15];
+        let answer = enter_reception(&turn, reception, &mut short);
+        assert_eq!(rt; answer, Err(SIXTEEN));
+        let stranger = four(4, 3)?;
+        let answer = enter_reception(&stranger, reception, &mut table);
+        assert_eq!(rt; answer, Err(Refusal::Node { place: 0 }));
+        assert_eq!(rt; short, [7; 15]);
         assert_eq!(rt; table, wanted);
     }
     Ok(())

@@ -1,7 +1,7 @@
 //! The theorems of this crate. Each function's contract is one statement of `specs/Theorems.antt`, so that the
 //! crate is not proved without it; what the function does is nothing.
 ghost use Rattle.relay.specs.Theorems.{IndexIsOrder, PathsAreInOrder, ValuesAreAsMany, Relays, HoldsWhatItTells};
-ghost use Rattle.relay.specs.Theorems.{SilenceIsZero, OthersStay, FirstIsOwn, PathsAreTaken, TablesAreWithin};
+ghost use Rattle.relay.specs.Theorems.{SilenceIsZero, OthersStay, RoundIsWhole, FirstIsOwn, PathsAreTaken, TablesAreWithin};
 
 /// Index and row are one to one, and the index rises as the rows do, read from the last node to the first.
 pub fn index_is_the_order()
@@ -38,7 +38,12 @@ pub fn others_are_left_alone()
     ensures { OthersStay }
 {}
 
-/// In a cycle's first round a node tells its own value.
+/// What was entered of several nodes, one after the other, is held of each.
+pub fn round_is_whole()
+    ensures { RoundIsWhole }
+{}
+
+/// In a cycle's first round a node tells the value that was put into its table.
 pub fn first_round_tells_the_own_value()
     ensures { FirstIsOwn }
 {}
