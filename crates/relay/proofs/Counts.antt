@@ -6,7 +6,7 @@ use Rattle.std.proofs.lemmas.List.{length-append}
 use Rattle.std.proofs.lemmas.List.Elements.{All-head, All-tail, filter-append}
 use Rattle.std.proofs.lemmas.List.FromFn.{filter_of_map_range_with_len_more}
 use Rattle.frame.specs.Layout.{paths_without_one}
-use Rattle.relay.specs.Paths.{stands_in, is_path, is_told, rows, each_in_front, paths_without}
+use Rattle.relay.specs.Paths.{stands_in, is_path, is_path_without, rows, each_in_front, paths_without}
 use Rattle.relay.proofs.Numbers.{rows_long}
 use Rattle.relay.proofs.Told.{told_behind}
 
@@ -82,7 +82,7 @@ simplify : (b : Bool) → ((not b && true) && true) ≡ not b
 simplify true = refl
 simplify false = refl
 
-may_tell : (n sender node : ℕ) (row : List ℕ) → is_told n sender row ≡ true → node < n → is_told n sender (node ∷ row) ≡ not (stands_in node (sender ∷ row))
+may_tell : (n sender node : ℕ) (row : List ℕ) → is_path_without n sender row ≡ true → node < n → is_path_without n sender (node ∷ row) ≡ not (stands_in node (sender ∷ row))
 may_tell n sender node row told within =
     let (path, free) = and_parts (is_path n row) (not (stands_in sender row)) told in
     let other = not-true (stands_in sender row) free in
@@ -91,17 +91,17 @@ may_tell n sender node row told within =
       | inr differs ↦ rw (lt-ltb node n within, path, other, ne_eqb node sender differs, ne_eqb sender node (λ same. differs (sym same))) (simplify (stands_in node row))
     ]
 
-in_front_of : (n sender count : ℕ) (row : List ℕ) → sender < n → length row ≡ count → length (filter (is_told n sender) (each_in_front n row)) ≡ cond (is_told n sender row) (n - suc count) 0
+in_front_of : (n sender count : ℕ) (row : List ℕ) → sender < n → length row ≡ count → length (filter (is_path_without n sender) (each_in_front n row)) ≡ cond (is_path_without n sender row) (n - suc count) 0
 in_front_of n sender count row known long =
-    let all = counted (is_told n sender) (λ node. node ∷ row) n in
-    elim (cases_Bool (is_told n sender row)) [
+    let all = counted (is_path_without n sender) (λ node. node ∷ row) n in
+    elim (cases_Bool (is_path_without n sender row)) [
       | inl told ↦
           let (path, free) = and_parts (is_path n row) (not (stands_in sender row)) told in
           let longer : is_path n (sender ∷ row) ≡ true = rw (lt-ltb sender n known, free, path) in
-          let same = count_agrees (λ node. is_told n sender (node ∷ row)) (λ node. not (stands_in node (sender ∷ row))) n (λ node h. may_tell n sender node row told h) in
+          let same = count_agrees (λ node. is_path_without n sender (node ∷ row)) (λ node. not (stands_in node (sender ∷ row))) n (λ node h. may_tell n sender node row told h) in
           rw told (omega (arith, all, same, free_of n (sender ∷ row) longer, long))
       | inr not_told ↦
-          let same = count_agrees (λ node. is_told n sender (node ∷ row)) (λ node. false) n (λ node h. told_behind n sender node row not_told) in
+          let same = count_agrees (λ node. is_path_without n sender (node ∷ row)) (λ node. false) n (λ node h. told_behind n sender node row not_told) in
           rw not_told (omega (arith, all, same, count_none n))
     ]
 
@@ -109,10 +109,10 @@ one_more : (k m : ℕ) → suc k * m ≡ m + k * m
 one_more k m = omega arith
 
 told_on : (n sender count : ℕ) (all : List (List ℕ)) → sender < n → All (λ row. length row ≡ count) all →
-    length (filter (is_told n sender) (flat_map (each_in_front n) all)) ≡ length (filter (is_told n sender) all) * (n - suc count)
+    length (filter (is_path_without n sender) (flat_map (each_in_front n) all)) ≡ length (filter (is_path_without n sender) all) * (n - suc count)
 told_on n sender count [] known long = omega arith
 told_on n sender count (row ∷ all) known long =
-    let told = is_told n sender in
+    let told = is_path_without n sender in
     let front = in_front_of n sender count row known (All-head (λ row. length row ≡ count) row all long) in
     let rest = told_on n sender count all known (All-tail (λ row. length row ≡ count) row all long) in
     let parts = ap length (filter-append told (each_in_front n row) (flat_map (each_in_front n) all)) in

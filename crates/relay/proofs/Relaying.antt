@@ -6,18 +6,18 @@ use Rattle.std.proofs.lemmas.Bool.{cases_Bool, or_parts, not-true, eqb-true, eqb
 use Rattle.std.proofs.lemmas.Bool.Decides.{nat_tests}
 use Rattle.std.proofs.lemmas.Nat.{same_from_place, mul-le}
 use Rattle.std.proofs.lemmas.List.{get_or-set_same, get_or-map, length-drop}
-use Rattle.std.proofs.lemmas.List.Elements.{All-cons, All-nil, All-contains, All-filter, filter_passes}
+use Rattle.std.proofs.lemmas.List.Elements.{All-head, All-cons, All-nil, All-contains, All-filter, filter_passes}
 use Rattle.clock.specs.declared.limits.Cluster.{Cluster}
-use Rattle.frame.specs.Layout.{value_count_of, frame_length_of, payload_of, values_in}
+use Rattle.frame.specs.Layout.{place_in_cycle, value_count_of, frame_length_of, payload_of, values_in}
 use Rattle.frame.specs.Writing.{first_values}
 use Rattle.frame.specs.declared.turn.Turn.{Turn}
 use Rattle.frame.specs.declared.reading.Reception.TheVariants.{Whole, TurnedAway}
 use Rattle.frame.proofs.Payloads.{length-values_in}
 use Rattle.frame.proofs.Frames.{received_whole}
-use Rattle.relay.specs.Paths.{AllBelow, stands_in, is_path, is_told, index_of, rows}
-use Rattle.relay.specs.Tables.{held_for}
+use Rattle.relay.specs.Paths.{AllBelow, stands_in, is_path, is_path_without, index_of, rows}
+use Rattle.relay.specs.Tables.{held_for, with_entry}
 use Rattle.relay.specs.Telling.{paths_of, IsTold, told_from, heard_in, Entered}
-use Rattle.relay.specs.Theorems.{IsLonger, turn_in, EnteredAll, RoundIsWhole, PathsAreInOrder, ValuesAreAsMany, Relays, HoldsWhatItTells, SilenceIsZero, OthersStay, FirstIsOwn, TablesAreWithin}
+use Rattle.relay.specs.Theorems.{IsPathBehind, turn_in, EnteredAll, RoundIsWhole, PathsAreInOrder, ValuesAreAsMany, Relays, HoldsWhatItTells, SilenceIsZero, OthersStay, FirstIsOwn, TablesAreWithin}
 use Rattle.relay.proofs.Lists.{list_by_index}
 use Rattle.relay.proofs.Numbers.{index_below, power_small, rows_long}
 use Rattle.relay.proofs.Order.{listed}
@@ -46,29 +46,29 @@ kept_in p (y ∷ all) x passes (suc k, h, is) =
 each : (t : Turn) (path : List ℕ) → IsTold t path → Contains (paths_of t) path
 each t path told =
     let n = t.cluster.nodes in
-    let (is, free) = and_parts (is_path n path) (not (stands_in t.sender path)) told.without_sender in
-    kept_in (is_told n t.sender) (rows n (place_of t)) path told.without_sender
+    let (is, free) = and_parts (is_path n path) (not (stands_in t.sender path)) told.path_without_sender in
+    kept_in (is_path_without n t.sender) (rows n (place_of t)) path told.path_without_sender
     (listed n (place_of t) path (record { as_long = told.as_long; of_cluster = path_below n path is }))
 
 only : (t : Turn) (path : List ℕ) → Contains (paths_of t) path → IsTold t path
 only t path in_list =
-    let told = is_told t.cluster.nodes t.sender in
+    let told = is_path_without t.cluster.nodes t.sender in
     let all = rows t.cluster.nodes (place_of t) in record {
       as_long = All-contains (λ row. length row ≡ place_of t) (paths_of t) path (All-filter told (λ row. length row ≡ place_of t) all (rows_long t.cluster.nodes (place_of t))) in_list;
-      without_sender = All-contains (λ row. told row ≡ true) (paths_of t) path (filter_passes told all) in_list;
+      path_without_sender = All-contains (λ row. told row ≡ true) (paths_of t) path (filter_passes told all) in_list;
     }
 
-shorter_path : (t : Turn) (path : List ℕ) → IsLonger t path → IsTold t path
+shorter_path : (t : Turn) (path : List ℕ) → IsPathBehind t path → IsTold t path
 shorter_path t path longer =
     let n = t.cluster.nodes in
     let (front, is) = and_parts (nat_lt t.sender n && not (stands_in t.sender path)) (is_path n path) longer.with_sender in
     let (within, free) = and_parts (nat_lt t.sender n) (not (stands_in t.sender path)) front in
-    record { as_long = longer.as_long; without_sender = and_from (is_path n path) (not (stands_in t.sender path)) is free }
+    record { as_long = longer.as_long; path_without_sender = and_from (is_path n path) (not (stands_in t.sender path)) is free }
 
 longer_path : (t : Turn) (path : List ℕ) → t.sender < t.cluster.nodes → IsTold t path → is_path t.cluster.nodes (t.sender ∷ path) ≡ true
 longer_path t path known told =
     let n = t.cluster.nodes in
-    let (is, free) = and_parts (is_path n path) (not (stands_in t.sender path)) told.without_sender in
+    let (is, free) = and_parts (is_path n path) (not (stands_in t.sender path)) told.path_without_sender in
     and_from (nat_lt t.sender n && not (stands_in t.sender path)) (is_path n path) (and_from (nat_lt t.sender n) (not (stands_in t.sender path)) (lt-ltb t.sender n known) free) is
 
 pub paths_in_order : PathsAreInOrder
@@ -78,7 +78,7 @@ paths_in_order t = record {
   in_front = λ known path. (λ told. record { as_long = told.as_long; with_sender = longer_path t path known told }, shorter_path t path);
   within = λ known path told.
       let n = t.cluster.nodes in
-      let (is, free) = and_parts (is_path n path) (not (stands_in t.sender path)) told.without_sender in
+      let (is, free) = and_parts (is_path n path) (not (stands_in t.sender path)) told.path_without_sender in
       let small : index_of n path < n ^ place_of t = rw told.as_long at (index_below n path (path_below n path is)) in
       entry_within t (index_of n path) known small;
 }
@@ -114,11 +114,12 @@ all_told t table known =
     ap (λ n. map (slice_index (told_from t table)) (range_with_len 0 n)) (sym (paths_are_as_many t.cluster.nodes t.sender (place_of t) known)) ∙ told_by_index t table
 
 pub relays : Relays
-relays t table memory old new deviation (Whole ahead payload) known fit received entered path told =
+relays t table memory old new deviation (Whole ahead payload) known fit received entered =
     let same : values_in payload.now ≡ told_from t table = (received_whole t (slice_index (told_from t table)) memory deviation (Whole ahead payload) fit received).1 ∙ all_told t table known in
     let heard : heard_in t payload.now ≡ told_from t table = ap (λ values. map (slice_index values) (range_with_len 0 (length (paths_of t)))) same ∙ told_by_index t table in
-    held_of t (held_for t.cluster table) old new (rw heard at entered) path told
-relays t table memory old new deviation (TurnedAway refusal) known fit received entered path told =
+    let own : Entered t (told_from t table) old new = rw heard at entered in
+    record { entered = own; held = held_of t (held_for t.cluster table) old new own }
+relays t table memory old new deviation (TurnedAway refusal) known fit received entered =
     absurd (received_whole t (slice_index (told_from t table)) memory deviation (TurnedAway refusal) fit received)
 
 pub others_stay : OthersStay
@@ -141,9 +142,10 @@ other_stands : (a b : Bool) → a ≡ false → (a || b) ≡ true → b ≡ true
 other_stands true b fails holds = absurd (true≢false fails)
 other_stands false b fails holds = holds
 
-pub round_is_whole : RoundIsWhole
-round_is_whole c round values [] old new path same sender stands = absurd (false≢true stands)
-round_is_whole c round values (first ∷ senders) old new path (between, entered, rest) sender stands =
+told_of_each : (c : Cluster) (round : ℕ) (values : ℕ → List ℕ) (senders old new : List ℕ) → is_path c.nodes senders ≡ true → EnteredAll c round values senders old new →
+    (sender : ℕ) → stands_in sender senders ≡ true → map (λ path. held_for c new (sender ∷ path)) (paths_of (turn_in c round sender)) ≡ values sender
+told_of_each c round values [] old new path same sender stands = absurd (false≢true stands)
+told_of_each c round values (first ∷ senders) old new path (between, entered, rest) sender stands =
     let (front, behind) = and_parts (nat_lt first c.nodes && not (stands_in first senders)) (is_path c.nodes senders) path in
     let (within, apart) = and_parts (nat_lt first c.nodes) (not (stands_in first senders)) front in
     let free = not-true (stands_in first senders) apart in
@@ -152,8 +154,32 @@ round_is_whole c round values (first ∷ senders) old new path (between, entered
     (λ i. map (λ path. kept path i) (paths_of (turn_in c round first))) ∙ entered.told in
     elim (cases_Bool (first == sender)) [
       | inl same ↦ rw (eqb-true first sender same) at here
-      | inr differs ↦ round_is_whole c round values senders between new behind rest sender (other_stands (first == sender) (stands_in sender senders) differs stands)
+      | inr differs ↦ told_of_each c round values senders between new behind rest sender (other_stands (first == sender) (stands_in sender senders) differs stands)
     ]
+
+-- so the entries of all paths of the round are those of what was entered
+one_behind : (c : Cluster) (round : ℕ) (values : ℕ → List ℕ) (senders new other : List ℕ) →
+    ((sender : ℕ) → stands_in sender senders ≡ true → map (λ path. held_for c new (sender ∷ path)) (paths_of (turn_in c round sender)) ≡ values sender) →
+    ((sender : ℕ) → stands_in sender senders ≡ true → map (λ path. held_for c other (sender ∷ path)) (paths_of (turn_in c round sender)) ≡ values sender) →
+    ((node : ℕ) → node < c.nodes → stands_in node senders ≡ true) →
+    (path : List ℕ) → length path ≡ place_in_cycle c round + 1 → is_path c.nodes path ≡ true → held_for c new path ≡ held_for c other path
+one_behind c round values senders new other one two all [] long path = absurd (omega (arith, long))
+one_behind c round values senders new other one two all (first ∷ behind) long path =
+    let t = turn_in c round first in
+    let within = All-head (λ node. node < c.nodes) first behind (path_below c.nodes (first ∷ behind) path) in
+    let told = shorter_path t behind (record { as_long = omega (arith, long); with_sender = path }) in
+    let (k, reached, is) = each t behind told in
+    let value : List ℕ → List ℕ → ℕ = λ table path. held_for c table (first ∷ path) in
+    let at : (table : List ℕ) → held_for c table (first ∷ behind) ≡ get_or (map (value table) (paths_of t)) k 0 =
+    λ table. ap (value table) (sym is) ∙ sym (get_or-map (value table) (paths_of t) k behind 0 reached) in
+    at new ∙ ap (λ list. get_or list k 0) (one first (all first within) ∙ sym (two first (all first within))) ∙ sym (at other)
+
+pub round_is_whole : RoundIsWhole
+round_is_whole c round values senders old new path entered = record {
+  told = told_of_each c round values senders old new path entered;
+  nothing_old = λ all other last again.
+      one_behind c round values senders new last (told_of_each c round values senders old new path entered) (told_of_each c round values senders other last path again) all;
+}
 
 pub tables_within : TablesAreWithin
 tables_within c = record {
@@ -169,4 +195,8 @@ tables_within c = record {
 pub first_is_own : FirstIsOwn
 first_is_own t value table first long =
     let some : 0 < length table = omega (arith, long, (tables_within t.cluster).least) in
-    rw first (ap (λ told. told ∷ []) (get_or-set_same table 0 value 0 some))
+    let own : held_for t.cluster (with_entry t.cluster [] value table) [] ≡ value = get_or-set_same table 0 value 0 some in record {
+      told = rw first (ap (λ told. told ∷ []) own);
+      held = λ old new entered.
+          holds_what_it_tells t (with_entry t.cluster [] value table) old new entered [] (record { as_long = sym first; path_without_sender = refl }) ∙ own;
+    }

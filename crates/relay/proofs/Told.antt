@@ -3,7 +3,7 @@ use Rattle.std.proofs.Common.{◌≡◌, ℕ, suc, ◌-◌, ◌/◌, ◌%◌, �
 use Rattle.std.proofs.lemmas.Bool.{cases_Bool, and_parts, and_cases, and_left, and_right, or_parts, or_right, not-true, not-false, not_from_true, lt-ltb, false≢true}
 use Rattle.std.proofs.lemmas.Nat.{mod_below}
 use Rattle.relay.specs.Nodes.{among, added}
-use Rattle.relay.specs.Paths.{stands_in, is_path, is_told, row_at}
+use Rattle.relay.specs.Paths.{stands_in, is_path, is_path_without, row_at}
 use Rattle.relay.specs.declared.nodes.NodeSet.{NodeSet}
 
 -- what is said of a row in front of which a node is put
@@ -14,7 +14,7 @@ pub record Parts (n sender node : ℕ) (path : List ℕ) : Type 0 where
   pub not_sender : (node == sender) ≡ false
   pub sender_not : stands_in sender path ≡ false
 
-pub parts : (n sender node : ℕ) (path : List ℕ) → is_told n sender (node ∷ path) ≡ true → Parts n sender node path
+pub parts : (n sender node : ℕ) (path : List ℕ) → is_path_without n sender (node ∷ path) ≡ true → Parts n sender node path
 parts n sender node path told =
     let (path_is, sender_free) = and_parts (is_path n (node ∷ path)) (not (stands_in sender (node ∷ path))) told in
     let (front, behind) = and_parts (nat_lt node n && not (stands_in node path)) (is_path n path) path_is in
@@ -29,7 +29,7 @@ parts n sender node path told =
     }
 
 -- a row is told of with a node in front only if it is told of itself
-pub told_behind : (n sender node : ℕ) (row : List ℕ) → is_told n sender row ≡ false → is_told n sender (node ∷ row) ≡ false
+pub told_behind : (n sender node : ℕ) (row : List ℕ) → is_path_without n sender row ≡ false → is_path_without n sender (node ∷ row) ≡ false
 told_behind n sender node row not_told =
     elim (and_cases (is_path n row) (not (stands_in sender row)) not_told) [
       | inl no_path ↦
@@ -42,8 +42,8 @@ told_behind n sender node row not_told =
     ]
 
 -- and then if the node is another one than the first, and may stand in front of what is behind it
-pub told_more : (n sender node first : ℕ) (path : List ℕ) → is_told n sender (first ∷ path) ≡ true →
-    is_told n sender (node ∷ first ∷ path) ≡ (not (first == node) && is_told n sender (node ∷ path))
+pub told_more : (n sender node first : ℕ) (path : List ℕ) → is_path_without n sender (first ∷ path) ≡ true →
+    is_path_without n sender (node ∷ first ∷ path) ≡ (not (first == node) && is_path_without n sender (node ∷ path))
 told_more n sender node first path told =
     let p = parts n sender first path told in
     elim (cases_Bool (first == node)) [
@@ -53,7 +53,7 @@ told_more n sender node first path told =
 
 -- which nodes may not stand in front of a row, from which may not in front of what is behind its first node
 abbrev pub BarredBefore : ℕ → ℕ → List ℕ → NodeSet → Type 0
-BarredBefore n sender row set = (node : ℕ) → node < n → among set node ≡ not (is_told n sender (node ∷ row))
+BarredBefore n sender row set = (node : ℕ) → node < n → among set node ≡ not (is_path_without n sender (node ∷ row))
 
 first_of_row : (n count index : ℕ) → 0 < count → row_at n count index ≡ index % n ∷ row_at n (count - 1) (index / n)
 first_of_row n count index some = let one : count ≡ suc (count - 1) = omega (arith, some) in ap (λ k. row_at n k index) one
@@ -70,8 +70,8 @@ pub barred_all : (n sender count index : ℕ) (behind set : NodeSet) → 0 < n �
 barred_all n sender count index behind set some few more before stands all node h =
     let first = index % n in
     let path = row_at n (count - 1) (index / n) in
-    let told : is_told n sender (first ∷ path) ≡ false = not-true (is_told n sender (first ∷ path)) (sym (before first (mod_below index n some)) ∙ stands) in
-    let no : is_told n sender (node ∷ first ∷ path) ≡ false = told_behind n sender node (first ∷ path) told in
+    let told : is_path_without n sender (first ∷ path) ≡ false = not-true (is_path_without n sender (first ∷ path)) (sym (before first (mod_below index n some)) ∙ stands) in
+    let no : is_path_without n sender (node ∷ first ∷ path) ≡ false = told_behind n sender node (first ∷ path) told in
     rw (first_of_row n count index more, no) (all node ∙ lt-ltb node 16 (omega (arith, h, few)))
 
 pub barred_more : (n sender count index : ℕ) (behind set : NodeSet) → 0 < n → n ≤ 16 → 0 < count →
@@ -81,7 +81,7 @@ barred_more n sender count index behind set some few more before free one node h
     let first = index % n in
     let path = row_at n (count - 1) (index / n) in
     let small = lt-ltb first 16 (omega (arith, mod_below index n some, few)) in
-    let told : is_told n sender (first ∷ path) ≡ true = not-false (is_told n sender (first ∷ path)) (sym (before first (mod_below index n some)) ∙ free) in
+    let told : is_path_without n sender (first ∷ path) ≡ true = not-false (is_path_without n sender (first ∷ path)) (sym (before first (mod_below index n some)) ∙ free) in
     let is = told_more n sender node first path told in
     let was = before node h in
-    rw (first_of_row n count index more, is) (one node ∙ either (first == node) (is_told n sender (node ∷ path)) (among behind node) (nat_lt first 16) small was)
+    rw (first_of_row n count index more, is) (one node ∙ either (first == node) (is_path_without n sender (node ∷ path)) (among behind node) (nat_lt first 16) small was)

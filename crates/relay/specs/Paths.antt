@@ -1,4 +1,4 @@
--- Paths by which values were told on, and their numbers. Assumes nothing: these are definitions.
+-- Paths by which values were told on, and their indices. Assumes nothing: these are definitions.
 use Rattle.std.specs.Prelude.{ℕ, zero, suc, ◌+◌, ◌*◌, ◌/◌, ◌%◌, ◌<◌, Bool, true, not, ◌&&◌, List, [], ◌∷◌, map, flat_map, ◌==◌, nat_lt}
 use Rattle.std.specs.List.{All, range_with_len, filter, list_any}
 
@@ -15,7 +15,7 @@ is_path n (node ∷ path) = nat_lt node n && not (stands_in node path) && is_pat
 abbrev pub AllBelow : ℕ → List ℕ → Type 0
 AllBelow n row = All (λ node. node < n) row
 
--- the number of a row, in base n: the node that stands first is the lowest digit
+-- the index of a row, a number in base n: the node that stands first is the lowest digit
 abbrev pub index_of : ℕ → List ℕ → ℕ
 index_of n [] = 0
 index_of n (node ∷ row) = index_of n row * n + node
@@ -29,14 +29,14 @@ abbrev pub rows : ℕ → ℕ → List (List ℕ)
 rows n zero = [] ∷ []
 rows n (suc count) = flat_map (each_in_front n) (rows n count)
 
--- the paths of so many nodes that do not hold the sender, in the same order
-abbrev pub is_told : ℕ → ℕ → List ℕ → Bool
-is_told n sender row = is_path n row && not (stands_in sender row)
+-- a path that does not hold the sender; and those of so many nodes, in the same order
+abbrev pub is_path_without : ℕ → ℕ → List ℕ → Bool
+is_path_without n sender row = is_path n row && not (stands_in sender row)
 
 abbrev pub paths_without : ℕ → ℕ → ℕ → List (List ℕ)
-paths_without n sender count = filter (is_told n sender) (rows n count)
+paths_without n sender count = filter (is_path_without n sender) (rows n count)
 
--- the row of so many nodes that has a number: its digits
+-- the row of so many nodes that has an index: its digits
 abbrev pub row_at : ℕ → ℕ → ℕ → List ℕ
 row_at n zero index = []
 row_at n (suc count) index = index % n ∷ row_at n count (index / n)

@@ -6,7 +6,7 @@ use Rattle.frame.specs.Writing.{first_values}
 use Rattle.frame.specs.declared.turn.Turn.{Turn}
 use Rattle.frame.specs.declared.reading.Reception.{Reception}
 use Rattle.frame.specs.declared.reading.Reception.TheVariants.{Whole, TurnedAway}
-use Rattle.relay.specs.Paths.{index_of, is_told, paths_without}
+use Rattle.relay.specs.Paths.{index_of, is_path_without, paths_without}
 use Rattle.relay.specs.Tables.{held_for, unfit, past}
 use Rattle.relay.specs.declared.refusal.Refusal.{Refusal}
 
@@ -17,21 +17,22 @@ paths_of t = paths_without t.cluster.nodes t.sender (place_in_cycle t.cluster t.
 
 pub record IsTold (t : Turn) (path : List ℕ) : Type 0 where
   pub as_long : length path ≡ place_in_cycle t.cluster t.round
-  pub without_sender : is_told t.cluster.nodes t.sender path ≡ true
+  pub path_without_sender : is_path_without t.cluster.nodes t.sender path ≡ true
 
 -- of each it tells what its table holds for it
 abbrev pub told_from : Turn → List ℕ → List ℕ
 told_from t table = map (held_for t.cluster table) (paths_of t)
 
--- What is heard of it are the values of its payload, and 0 for each path for which there is none. So of no payload it is 0 for each path.
+-- What is heard of it are the values of its payload, and 0 for each path for which there is none (`slice_index` is 0 past the end of a list). So of no
+-- payload it is 0 for each path.
 abbrev pub heard_in : Turn → List ℕ → List ℕ
 heard_in t payload = first_values (slice_index (values_in payload)) (length (paths_of t))
 
 abbrev pub nothing_heard : Turn → List ℕ
 nothing_heard t = map (λ path. 0) (paths_of t)
 
--- Why a node tells nothing from a table, and why nothing that it told is entered into one: the table has another length than the cluster needs; the node is past
--- the cluster.
+-- Why a node tells nothing from a table, and why nothing that it told is entered into one: the table has another length than the cluster needs; the
+-- node is past the cluster.
 abbrev pub untold : Turn → List ℕ → List (Row Refusal)
 untold t table = unfit t.cluster table ∷ past t.cluster t.sender ∷ []
 

@@ -38,7 +38,7 @@ abbrev pub IndexIsOrder : Type 0
 IndexIsOrder = (n count : ℕ) → Indexed n count
 
 -- A row of as many nodes as the place of the round in its cycle which is a path with the sender in front.
-pub record IsLonger (t : Turn) (path : List ℕ) : Type 0 where
+pub record IsPathBehind (t : Turn) (path : List ℕ) : Type 0 where
   pub as_long : length path ≡ place_in_cycle t.cluster t.round
   pub with_sender : is_path t.cluster.nodes (t.sender ∷ path) ≡ true
 
@@ -47,7 +47,7 @@ pub record IsLonger (t : Turn) (path : List ℕ) : Type 0 where
 pub record InOrder (t : Turn) : Type 0 where
   pub each : (path : List ℕ) → IsTold t path ↔ Contains (paths_of t) path
   pub rising : IsStrictlyIncreasing (map (index_of t.cluster.nodes) (paths_of t))
-  pub in_front : t.sender < t.cluster.nodes → (path : List ℕ) → IsTold t path ↔ IsLonger t path
+  pub in_front : t.sender < t.cluster.nodes → (path : List ℕ) → IsTold t path ↔ IsPathBehind t path
   pub within : t.sender < t.cluster.nodes → (path : List ℕ) → IsTold t path → index_of t.cluster.nodes (t.sender ∷ path) < table_length_of t.cluster
 
 abbrev pub PathsAreInOrder : Type 0
@@ -61,14 +61,18 @@ pub record AsMany (t : Turn) : Type 0 where
 abbrev pub ValuesAreAsMany : Type 0
 ValuesAreAsMany = (t : Turn) → t.sender < t.cluster.nodes → AsMany t
 
--- Relaying: where a node wrote its frame from its table, and another one received the frame in its turn and entered what it heard, that one's table
--- holds for the node in front of each path that does not hold it what the node's table holds for the path.
+-- Relaying: where a node wrote its frame from its table, and another one received the frame in its turn and entered what became of it, that one entered
+-- what the node tells; so its table holds for the node in front of each path that does not hold it what the node's table holds for the path.
+pub record Relayed (t : Turn) (table old new : List ℕ) : Type 0 where
+  pub entered : Entered t (told_from t table) old new
+  pub held : (path : List ℕ) → IsTold t path → held_for t.cluster new (t.sender ∷ path) ≡ held_for t.cluster table path
+
 abbrev pub Relays : Type 0
 Relays =
     (t : Turn) (table memory old new : List ℕ) (deviation : ℤ) (reception : Reception) → t.sender < t.cluster.nodes →
     FirstFit (slice_index (told_from t table)) (value_count_of t) →
     Receives t deviation (written_frame t (slice_index (told_from t table)) memory) reception → EntersReception t reception old new →
-    (path : List ℕ) → IsTold t path → held_for t.cluster new (t.sender ∷ path) ≡ held_for t.cluster table path
+    Relayed t table old new
 
 -- And so does the node's own table, into which it entered what it tells.
 abbrev pub HoldsWhatItTells : Type 0
@@ -76,7 +80,7 @@ HoldsWhatItTells =
     (t : Turn) (table old new : List ℕ) → Entered t (told_from t table) old new →
     (path : List ℕ) → IsTold t path → held_for t.cluster new (t.sender ∷ path) ≡ held_for t.cluster table path
 
--- A node of which nothing was heard leaves 0 for itself in front of each path that it was to tell of, whatever stood there before.
+-- A node of which nothing was heard, or whose frame was turned away, leaves 0 for itself in front of each path that it was to tell of, whatever stood there.
 abbrev pub SilenceIsZero : Type 0
 SilenceIsZero = (t : Turn) (old new : List ℕ) → Entered t (nothing_heard t) old new → (path : List ℕ) → IsTold t path → held_for t.cluster new (t.sender ∷ path) ≡ 0
 
@@ -87,7 +91,7 @@ OthersStay =
     (other : ℕ) (row : List ℕ) → other < t.cluster.nodes → (other ≡ t.sender → ⊥) → held_for t.cluster new (other ∷ row) ≡ held_for t.cluster old (other ∷ row)
 
 -- So a round is whole: where what several nodes told in it was entered, each node's once and one after the other, in any order, the table holds of each of
--- them what was entered. If they are all nodes, nothing stands any more at a path of the round's length that stood there before.
+-- them what was entered. If they are all nodes, then for each path of a node more than the place of the round it holds the same, whatever it held before.
 abbrev pub turn_in : Cluster → ℕ → ℕ → Turn
 turn_in c round sender = record { cluster = c; sender = sender; round = round }
 
@@ -96,17 +100,26 @@ EnteredAll c round values [] old new = new ≡ old
 EnteredAll c round values (sender ∷ senders) old new =
     (between : List ℕ) × Entered (turn_in c round sender) (values sender) old between × EnteredAll c round values senders between new
 
+pub record Whole (c : Cluster) (round : ℕ) (values : ℕ → List ℕ) (senders new : List ℕ) : Type 0 where
+  pub told : (sender : ℕ) → stands_in sender senders ≡ true → map (λ path. held_for c new (sender ∷ path)) (paths_of (turn_in c round sender)) ≡ values sender
+  pub nothing_old :
+      ((node : ℕ) → node < c.nodes → stands_in node senders ≡ true) → (other last : List ℕ) → EnteredAll c round values senders other last →
+      (path : List ℕ) → length path ≡ place_in_cycle c round + 1 → is_path c.nodes path ≡ true → held_for c new path ≡ held_for c last path
+
 abbrev pub RoundIsWhole : Type 0
 RoundIsWhole =
     (c : Cluster) (round : ℕ) (values : ℕ → List ℕ) (senders old new : List ℕ) → is_path c.nodes senders ≡ true → EnteredAll c round values senders old new →
-    (sender : ℕ) → stands_in sender senders ≡ true →
-    map (λ path. held_for c new (sender ∷ path)) (paths_of (turn_in c round sender)) ≡ values sender
+    Whole c round values senders new
 
--- In a cycle's first round a node tells the value that was put into its table as the cycle began, and nothing else.
+-- In a cycle's first round a node tells the value that was put into its table as the cycle began, and nothing else. So who entered what it tells holds
+-- this value for the path of this node alone.
+pub record First (t : Turn) (value : ℕ) (table : List ℕ) : Type 0 where
+  pub told : told_from t (with_entry t.cluster [] value table) ≡ value ∷ []
+  pub held : (old new : List ℕ) → Entered t (told_from t (with_entry t.cluster [] value table)) old new → held_for t.cluster new (t.sender ∷ []) ≡ value
+
 abbrev pub FirstIsOwn : Type 0
 FirstIsOwn =
-    (t : Turn) (value : ℕ) (table : List ℕ) → place_in_cycle t.cluster t.round ≡ 0 → length table ≡ table_length_of t.cluster →
-    told_from t (with_entry t.cluster [] value table) ≡ value ∷ []
+    (t : Turn) (value : ℕ) (table : List ℕ) → place_in_cycle t.cluster t.round ≡ 0 → length table ≡ table_length_of t.cluster → First t value table
 
 -- What is not turned away as no path is a path, of one node or more, and of no more than a cycle has rounds; and no such path is turned away.
 pub record IsHeldPath (c : Cluster) (row : List ℕ) : Type 0 where

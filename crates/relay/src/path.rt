@@ -1,4 +1,4 @@
-//! Paths as numbers, and why a row of nodes is turned away.
+//! The index of a path, and why a row of nodes is none.
 ghost use Rattle.std.specs.Prelude.{◌≡◌, ◌<◌, ◌≤◌, length};
 ghost use Rattle.std.specs.List.{position, range_with_len};
 ghost use Rattle.midpoint.specs.Refusals.{ByRows};
@@ -8,7 +8,7 @@ ghost use Rattle.relay.specs.Tables.{wrong_at, no_path, table_length_of};
 use crate::refusal::Refusal;
 use clock::Cluster;
 
-// The number of a path that the cluster's tables have, or why a row of nodes is none.
+// The index of a path that the cluster's tables have, or why a row of nodes is none.
 #[tactic(auto, using(crate::proofs::Places::taken_below, crate::proofs::Places::taken_short, crate::proofs::Places::taken_within))]
 pub(crate) fn path_index(cluster: &Cluster, row: &[u8]) -> Result<usize, Refusal>
     ensures { ByRows (no_path cluster.now row.now) (λ e. e) (λ index. (index ≡ index_of cluster.now.nodes row.now) × (index < table_length_of cluster.now)) result }
@@ -47,7 +47,7 @@ fn wrong_at(nodes: usize, row: &[u8], place: usize) -> bool
     row[place] as usize >= nodes || row[..place].contains(&row[place])
 }
 
-// The number of a row of nodes.
+// The index of a row of nodes.
 fn index_of(nodes: usize, row: &[u8]) -> usize
     requires nodes { nodes ≤ 16 }
     requires length { length row.now ≤ 4 }

@@ -1,4 +1,4 @@
-//! Why a table or a path is turned away.
+//! Why a table, a path or a node is turned away.
 ghost use Rattle.std.specs.Prelude.{◌≡◌};
 ghost use Rattle.relay.specs.Tables.{code_of};
 

@@ -1,16 +1,15 @@
 //! What a node tells in its turn, and what is entered of what was told.
-ghost use Rattle.std.specs.Prelude.{◌≡◌, ◌+◌, ◌*◌, ◌/◌, ◌<◌, ◌≤◌, ◌∷◌, [], length, slice_index, slice_set, cond, is_ok, OnOk, MatchOption};
+ghost use Rattle.std.specs.Prelude.{◌≡◌, ◌+◌, ◌*◌, ◌/◌, ◌<◌, length, slice_index, slice_set, cond, is_ok, OnOk, MatchOption};
 ghost use Rattle.std.specs.Result.{MatchResult};
 ghost use Rattle.midpoint.specs.Refusals.{ByRows};
 ghost use Rattle.frame.specs.Layout.{value_length, value_count_of, frame_length_of};
 ghost use Rattle.frame.specs.Writing.{too_short, FirstFit, filled, with_frame};
-ghost use Rattle.relay.specs.Tables.{table_length_of, unfit, past};
+ghost use Rattle.relay.specs.Tables.{table_length_of};
 ghost use Rattle.relay.specs.Telling.{told_from, untold, heard_in, nothing_heard, Entered, EntersReception};
 
 use crate::indices::PathIndices;
 use crate::refusal::Refusal;
 use crate::table::fits;
-use clock::Cluster;
 use frame::{Reception, Turn, VALUE_LENGTH, Values, put_value, value};
 
 /// What a node tells in its turn: for each path without it, of as many nodes as the round's place in its cycle, what its
@@ -27,8 +26,7 @@ impl<'a> Telling<'a> {
     pub fn new(turn: Turn, table: &'a [u32]) -> Result<Telling<'a>, Refusal>
         ensures { ByRows (untold turn table.now) (λ e. e) (λ telling. (telling.turn ≡ turn) × (telling.table.now ≡ table.now)) result }
     {
-        fits(&turn.cluster, table)?;
-        known(&turn)?;
+        can_tell(&turn, table)?;
         Ok(Telling { turn, table })
     }
 
@@ -41,6 +39,18 @@ impl<'a> Telling<'a> {
     {
         self.turn.write(self, memory)
     }
+
+    /// Enters what the node tells into the table that it writes in this round: for itself in front of each path what its table
+    /// holds for the path. All other entries stay as they were. A table of another length than the cluster needs is refused,
+    /// 10 at the length needed, and is left as it was.
+    pub fn enter(self, written: &mut [u32]) -> Result<(), Refusal>
+        ensures answer { ByRows (untold self.entry.turn written.old) (λ e. e) (λ _. Unit {0}) result }
+        ensures table { MatchResult result (λ _. Entered self.entry.turn (told_from self.entry.turn self.entry.table.now) written.old written.new) (λ _. written.new ≡ written.old) }
+    {
+        can_tell(&self.turn, written)?;
+        put_own(&self.turn, self.table, written);
+        Ok(())
+    }
 }
 
 /// The values of the paths in their order, and 0 at each index past the last path.
@@ -52,22 +62,21 @@ impl Values for Telling<'_> {
     }
 }
 
-/// Enters a payload that was heard of a node in its turn into the table that is written in this round: for the node in front
-/// of each path that it told of the value, in their order, and 0 for those that the payload has no value for; values past the
-/// last path are left out. All other entries stay as they were. A table of another length than the cluster needs is refused, 10 at the length needed; then a sender that is past the
-/// cluster, 11 at 0; the table is then left as it was.
+/// Enters a payload that was heard of a node in its turn into the table that is written in this round: each value for its
+/// path with the node in front, in the order of the paths, and 0 where the payload has no value; values past the last path
+/// are left out. All other entries stay as they were. A table of another length than the cluster needs is refused, 10 at
+/// the length needed; then a sender that is past the cluster, 11 at 0; the table is then left as it was.
 pub fn enter_heard(turn: &Turn, payload: &[u8], written: &mut [u32]) -> Result<(), Refusal>
     ensures answer { ByRows (untold turn.now written.old) (λ e. e) (λ _. Unit {0}) result }
     ensures table { MatchResult result (λ _. Entered turn.now (heard_in turn.now payload.now) written.old written.new) (λ _. written.new ≡ written.old) }
 {
-    fits(&turn.cluster, written)?;
-    known(turn)?;
+    can_tell(turn, written)?;
     put_heard(turn, payload, written);
     Ok(())
 }
 
-/// Enters that nothing was heard of a node in its turn: 0 for the node in front of each path that it was to tell of. Refusals
-/// are those of `enter_heard`.
+/// Enters that nothing was heard of a node in its turn: 0 for each path that it was to tell of, with the node in front.
+/// Refusals are those of `enter_heard`.
 #[tactic(auto, using(crate::proofs::Entering::nothing_in))]
 pub fn enter_silence(turn: &Turn, written: &mut [u32]) -> Result<(), Refusal>
     ensures answer { ByRows (untold turn.now written.old) (λ e. e) (λ _. Unit {0}) result }
@@ -76,8 +85,8 @@ pub fn enter_silence(turn: &Turn, written: &mut [u32]) -> Result<(), Refusal>
     enter_heard(turn, &[], written)
 }
 
-/// Enters what became of a frame that came in the turn of its node: its payload if it was heard whole, and silence if it was
-/// turned away. Refusals are those of `enter_heard`.
+/// Enters what became of a frame that came in the turn of its node: its values if it was heard whole, and 0 for each if it
+/// was turned away. Refusals are those of `enter_heard`.
 pub fn enter_reception(
     turn: &Turn,
     reception: Reception<'_>,
@@ -90,19 +99,6 @@ pub fn enter_reception(
         Reception::Whole { payload, .. } => enter_heard(turn, payload, written),
         Reception::TurnedAway(_) => enter_silence(turn, written),
     }
-}
-
-/// Enters what a node tells in its own turn: for itself in front of each path what its table holds for the path, which is what
-/// it sends. Refusals are those of `enter_heard`; either table may have another length than the cluster needs.
-pub fn enter_own(turn: &Turn, read: &[u32], written: &mut [u32]) -> Result<(), Refusal>
-    ensures answer { ByRows (unfit turn.now.cluster read.now ∷ untold turn.now written.old) (λ e. e) (λ _. Unit {0}) result }
-    ensures table { MatchResult result (λ _. Entered turn.now (told_from turn.now read.now) written.old written.new) (λ _. written.new ≡ written.old) }
-{
-    fits(&turn.cluster, read)?;
-    fits(&turn.cluster, written)?;
-    known(turn)?;
-    put_own(turn, read, written);
-    Ok(())
 }
 
 // Fills a payload with what a table holds for the paths.
@@ -127,10 +123,11 @@ fn held_at(table: &[u32], index: Option<usize>) -> u32
         .unwrap_or(0)
 }
 
-// Whether the sender of a turn is a node of the cluster.
-fn known(turn: &Turn) -> Result<(), Refusal>
-    ensures { ByRows (past turn.now.cluster turn.now.sender ∷ []) (λ e. e) (λ _. Unit {0}) result }
+// Whether the sender of a turn is a node of the cluster, and can tell from a table, or be entered into it.
+fn can_tell(turn: &Turn, table: &[u32]) -> Result<(), Refusal>
+    ensures { ByRows (untold turn.now table.now) (λ e. e) (λ _. Unit {0}) result }
 {
+    fits(&turn.cluster, table)?;
     if turn.sender as u64 >= turn.cluster.nodes() {
         return Err(Refusal::Node { place: 0 });
     }
@@ -153,12 +150,11 @@ fn put_heard(turn: &Turn, payload: &[u8], written: &mut [u32])
 // Enters what a table holds.
 fn put_own(turn: &Turn, read: &[u32], written: &mut [u32])
     requires known { turn.now.sender < turn.now.cluster.nodes }
-    requires read { length read.now ≡ table_length_of turn.now.cluster }
     requires fits { length written.old ≡ table_length_of turn.now.cluster }
     ensures { Entered turn.now (told_from turn.now read.now) written.old written.new }
 {
     for index in PathIndices::of(turn) {
-        put(turn, index, read[index], written);
+        put(turn, index, held_at(read, Some(index)), written);
     }
 }
 

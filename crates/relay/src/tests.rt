@@ -2,8 +2,8 @@
 //! of seven and of sixteen nodes in loops over the nodes of each row.
 use crate::nodes::NodeSet;
 use crate::refusal::Refusal;
-use crate::table::{MAX_TABLE_LENGTH, begin_cycle, held, table_length};
-use crate::telling::{Telling, enter_heard, enter_own, enter_reception, enter_silence};
+use crate::table::{MAX_TABLE_LENGTH, begin_cycle, held_for, table_length};
+use crate::telling::{Telling, enter_heard, enter_reception, enter_silence};
 use clock::Cluster;
 use frame::{Turn, Values, value};
 use midpoint::Code;
@@ -66,10 +66,10 @@ fn goes_through(
         let frame = frames[sender];
         if sender == own {
             let mut memory = [0; 17];
-            let length = Telling::new(turn, read)?.write(&mut memory)?;
-            assert_eq!(rt; length, frame.len());
+            let telling = Telling::new(turn, read)?;
+            assert_eq!(rt; telling.write(&mut memory), Ok(frame.len()));
             assert!(rt; memory.starts_with(frame));
-            enter_own(&turn, read, written)?;
+            telling.enter(written)?;
         } else if frame.is_empty() {
             enter_silence(&turn, written)?;
         } else {
@@ -82,7 +82,8 @@ fn goes_through(
 // Nodes 0, 1 and 2 give 5, 6 and 7. Node 3 tells them 1, 2 and 3, and in the second round that it heard 9 of each. In the
 // next cycle they give 2, 3 and 4; node 3 tells them nothing, 5 and 6, and is silent in the second round. In the end the good
 // nodes hold the same for each path of two nodes. The tables change places. Before they have 8 and 4 throughout: this
-// stays where a node would stand twice, but for index 0, where the own value stays.
+// stays where a node would stand twice, but for index 0, where the own value stays; and, in the table of the first round,
+// past the entries of the four nodes.
 #[test]
 fn two_cycles_of_four(rt: HostRuntime) -> Result<(), Fail> {
     let cluster = Cluster::new(4, 1, 0, 0)?;
@@ -113,10 +114,10 @@ fn two_cycles_of_four(rt: HostRuntime) -> Result<(), Fail> {
             (2, 7, [0, 1, 3], [7, 7, 9]),
             (3, told, [0, 1, 2], [1, 2, 3]),
         ] {
-            assert_eq!(rt; held(&cluster, &odd, &[node]), Ok(number));
+            assert_eq!(rt; held_for(&cluster, &odd, &[node]), Ok(number));
             for place in 0..3 {
                 let path = [others[place], node];
-                assert_eq!(rt; held(&cluster, &even, &path), Ok(numbers[place]));
+                assert_eq!(rt; held_for(&cluster, &even, &path), Ok(numbers[place]));
             }
         }
         assert_eq!(rt; begin_cycle(&cluster, &mut even, next), Ok(()));
@@ -164,7 +165,7 @@ fn rounds_of_each_node(rt: HostRuntime) -> Result<(), Fail> {
         let mut own = [7; 16];
         let mut heard = [7; 16];
         let mut silent = [7; 16];
-        assert_eq!(rt; enter_own(&turn, &read, &mut own), Ok(()));
+        assert_eq!(rt; Telling::new(turn, &read)?.enter(&mut own), Ok(()));
         assert_eq!(rt; enter_heard(&turn, &payload, &mut heard), Ok(()));
         assert_eq!(rt; enter_silence(&turn, &mut silent), Ok(()));
         for index in 0..16 {
@@ -198,18 +199,22 @@ fn third_round_of_seven(rt: HostRuntime) -> Result<(), Fail> {
     let mut written = [9; 343];
     let mut own = [9; 343];
     assert_eq!(rt; enter_heard(&turn, &payload, &mut written), Ok(()));
-    assert_eq!(rt; enter_own(&turn, &read, &mut own), Ok(()));
+    assert_eq!(rt; Telling::new(turn, &read)?.enter(&mut own), Ok(()));
     for last in 0..7 {
         for second in 0..7 {
             for first in 0..7 {
                 let is_path = first != second && first != last && second != last;
-                let is_told = is_path && first == 3;
-                let number = if is_told { read[7 * last + second] } else { 9 };
+                let is_path_without = is_path && first == 3;
+                let number = if is_path_without {
+                    read[7 * last + second]
+                } else {
+                    9
+                };
                 let index = 49 * last + 7 * second + first;
                 assert_eq!(rt; [own[index], written[index]], [number, number]);
                 let path = [first as u8, second as u8, last as u8];
                 if is_path {
-                    assert_eq!(rt; held(&turn.cluster, &written, &path), Ok(number));
+                    assert_eq!(rt; held_for(&turn.cluster, &written, &path), Ok(number));
                 }
             }
         }
@@ -235,17 +240,24 @@ fn last_round_of_sixteen(rt: HostRuntime) -> Result<(), Fail> {
         for second in 0..16 {
             for first in 0..16 {
                 let is_path = first != second && first != last && second != last;
-                let is_told = is_path && first != 5 && second != 5 && last != 5;
+                let is_path_without = is_path && first != 5 && second != 5 && last != 5;
                 let row = 256 * last + 16 * second + first;
                 let number = row as u32 + 100;
-                if is_told {
+                if is_path_without {
                     assert_eq!(rt; value(payload, place), Some(number));
                     assert!(rt; place < 2730);
                     place += 1;
                 }
                 for front in 0..16 {
                     let entry = written[16 * row + front];
-                    assert_eq!(rt; entry, if is_told && front == 5 { number } else { 9 });
+                    assert_eq!(rt;
+                        entry,
+                        if is_path_without && front == 5 {
+                            number
+                        } else {
+                            9
+                        }
+                    );
                 }
             }
         }
@@ -387,7 +399,7 @@ fn rounds_far_on(rt: HostRuntime) -> Result<(), Fail> {
         assert!(rt; length <= 10_000);
         let written = &mut memory[..length];
         assert_eq!(rt; enter_silence(&turn, written), Ok(()));
-        assert_eq!(rt; held(&turn.cluster, written, path), Ok(0));
+        assert_eq!(rt; held_for(&turn.cluster, written, path), Ok(0));
         assert_eq!(rt; written.iter().filter(|entry| **entry == 0).count(), count);
     }
     Ok(())
@@ -440,20 +452,16 @@ fn held_for_rows(rt: HostRuntime) -> Result<(), Fail> {
         let cluster = Cluster::new(nodes, faults, 0, 0)?;
         let length = table_length(&cluster);
         assert!(rt; length <= MAX_TABLE_LENGTH);
-        assert_eq!(rt; held(&cluster, &table[..length], row), answer);
+        assert_eq!(rt; held_for(&cluster, &table[..length], row), answer);
     }
     Ok(())
 }
 
-// For this turn each call refuses a table of sevens so, and leaves it and another one as they were.
+// For this turn each call refuses a table of sevens so, and leaves it as it was.
 fn refused(rt: &impl Abort, turn: Turn, table: &mut [u32], why: Refusal) {
-    let mut ones = [1; 16];
     assert_eq!(rt; Telling::new(turn, table).err(), Some(why));
     assert_eq!(rt; enter_heard(&turn, &[9; 12], table), Err(why));
     assert_eq!(rt; enter_silence(&turn, table), Err(why));
-    assert_eq!(rt; enter_own(&turn, &ones, table), Err(why));
-    assert_eq!(rt; enter_own(&turn, table, &mut ones), Err(why));
-    assert_eq!(rt; ones, [1; 16]);
     assert!(rt; table.iter().all(|entry| *entry == 7));
 }
 
@@ -461,16 +469,18 @@ fn refused(rt: &impl Abort, turn: Turn, table: &mut [u32], why: Refusal) {
 #[test]
 fn tables_of_another_length(rt: HostRuntime) -> Result<(), Fail> {
     let cluster = Cluster::new(4, 1, 0, 0)?;
+    let telling = Telling::new(four(3, 7)?, &[1; 16])?;
     for length in [0, 4, 15, 17, 64] {
         let mut memory = [7; 64];
         let table = &mut memory[..length];
+        assert_eq!(rt; telling.enter(table), Err(SIXTEEN));
         for sender in [3, 4] {
             refused(&rt, four(sender, 6)?, table, SIXTEEN);
             refused(&rt, four(sender, 7)?, table, SIXTEEN);
         }
         assert_eq!(rt; begin_cycle(&cluster, table, 5), Err(SIXTEEN));
         for row in [[].as_slice(), &[0], &[4], &[0, 0], &[0, 1, 2]] {
-            assert_eq!(rt; held(&cluster, table, row), Err(SIXTEEN));
+            assert_eq!(rt; held_for(&cluster, table, row), Err(SIXTEEN));
         }
         assert_eq!(rt; memory, [7; 64]);
     }

@@ -3,7 +3,8 @@
 ghost use Rattle.relay.specs.Theorems.{IndexIsOrder, PathsAreInOrder, ValuesAreAsMany, Relays, HoldsWhatItTells};
 ghost use Rattle.relay.specs.Theorems.{SilenceIsZero, OthersStay, RoundIsWhole, FirstIsOwn, PathsAreTaken, TablesAreWithin};
 
-/// Index and row are one to one, and the index rises as the rows do, read from the last node to the first.
+/// For rows of one length index and row are one to one, and the index rises as the rows do, read from the last node to
+/// the first.
 pub fn index_is_the_order()
     ensures { IndexIsOrder }
 {}
@@ -18,12 +19,12 @@ pub fn values_are_as_many_as_paths()
     ensures { ValuesAreAsMany }
 {}
 
-/// Who heard a node holds for it in front of a path what the node holds for the path.
+/// Who heard a node holds, for each path with that node in front, what the node itself holds for the path.
 pub fn what_is_told_is_held()
     ensures { Relays }
 {}
 
-/// So does the node itself.
+/// The node holds the same for itself.
 pub fn node_holds_what_it_tells()
     ensures { HoldsWhatItTells }
 {}
@@ -48,7 +49,7 @@ pub fn first_round_tells_the_own_value()
     ensures { FirstIsOwn }
 {}
 
-/// What is not turned away as no path is a path.
+/// A row of nodes is turned away if and only if it is no path that a table has.
 pub fn only_paths_are_taken()
     ensures { PathsAreTaken }
 {}

@@ -1,4 +1,4 @@
 use Rattle.relay.proofs.indices.+barred.Given as goal
 
 abbrev pub decreases-barred : goal.decreases-barred
-decreases-barred l = l.on_row
+decreases-barred l = l.row_length
