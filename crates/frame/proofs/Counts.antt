@@ -29,7 +29,7 @@ pub one_longer_at_most : (n k : ℕ) → n ≤ 16 → k + 1 ≤ 3 → paths_with
 one_longer_at_most n k l h = let left : n - k - 1 ≡ n - suc k = omega arith in rw left (at_most n (suc k) l (omega arith))
 
 -- so a frame carries at most so many values, and at least one
-within_cycle : (t : Turn) → place_in_cycle t.cluster t.round ≤ t.cluster.faults
+pub within_cycle : (t : Turn) → place_in_cycle t.cluster t.round ≤ t.cluster.faults
 within_cycle t = omega (arith, mod_below t.round (t.cluster.faults + 1) (omega arith))
 
 pub values_at_most : (t : Turn) → value_count_of t ≤ 2730

@@ -8,7 +8,7 @@ use Rattle.std.proofs.lemmas.List.FromFn.{filter_of_map_range_with_len_more}
 use Rattle.frame.specs.Layout.{paths_without_one}
 use Rattle.relay.specs.Paths.{stands_in, is_path, is_path_without, rows, each_in_front, paths_without}
 use Rattle.relay.proofs.Numbers.{rows_long}
-use Rattle.relay.proofs.Told.{told_behind}
+use Rattle.relay.proofs.Told.{path_parts, told_behind}
 
 -- how many numbers below n pass a test
 abbrev count_below : (ℕ → Bool) → ℕ → ℕ
@@ -55,12 +55,11 @@ neither false b = refl
 free_of : (n : ℕ) (row : List ℕ) → is_path n row ≡ true → count_below (λ node. not (stands_in node row)) n + length row ≡ n
 free_of n [] path = omega (arith, count_all n)
 free_of n (x ∷ row) path =
-    let (front, behind) = and_parts (nat_lt x n && not (stands_in x row)) (is_path n row) path in
-    let (within, free) = and_parts (nat_lt x n) (not (stands_in x row)) front in
+    let p = path_parts n x row path in
     let apart = count_agrees (λ node. not (stands_in node (x ∷ row))) (λ node. not (x == node) && not (stands_in node row)) n (λ node h. neither (x == node) (stands_in node row)) in
     let fewer : count_below (λ node. not (x == node) && not (stands_in node row)) n + 1 ≡ count_below (λ node. not (stands_in node row)) n =
-    rw within at (without_one (λ node. not (stands_in node row)) x n free) in
-    omega (arith, apart, fewer, free_of n row behind)
+    rw p.within at (without_one (λ node. not (stands_in node row)) x n (ap not p.free)) in
+    omega (arith, apart, fewer, free_of n row p.behind)
 
 -- how many rows of a list pass, where each row is given by a number
 length_cond : (b : Bool) (row : List ℕ) → length (cond b (row ∷ []) []) ≡ cond b 1 0

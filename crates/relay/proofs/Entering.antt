@@ -6,12 +6,13 @@ use Rattle.std.proofs.lemmas.Nat.{same_from_place}
 use Rattle.std.proofs.lemmas.List.{get_or-set_same, get_or-set_other, length-set, length-map, get_or-map, get_or_past, drop_all, append-nil}
 use Rattle.std.proofs.lemmas.List.FromFn.{fill_by_all}
 use Rattle.frame.specs.Layout.{values_in}
+use Rattle.frame.proofs.Counts.{within_cycle}
 use Rattle.frame.specs.declared.turn.Turn.{Turn}
 use Rattle.relay.specs.Tables.{table_length_of, held_for}
 use Rattle.relay.specs.Telling.{paths_of, told_from, heard_in, nothing_heard, Entered}
 use Rattle.relay.proofs.Lists.{Yields, yields, next_of, none_left, list_by_index}
 use Rattle.relay.proofs.Numbers.{power_small}
-use Rattle.relay.proofs.Turns.{indices_of, numbers_at_most, within_cycle, indices_differ, indices_below, index_within_table, entry_within, place_of, each_is_told, number_at, as_many}
+use Rattle.relay.proofs.Turns.{indices_of, numbers_at_most, indices_differ, indices_below, index_within_table, entry_within, place_of, each_is_told, number_at, as_many}
 
 -- where the value of a path goes, by the path's number
 abbrev pub entry : Turn → ℕ → ℕ

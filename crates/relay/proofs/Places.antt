@@ -6,7 +6,7 @@ use Rattle.std.proofs.lemmas.List.{drop_more, length-drop, get_or_default}
 use Rattle.std.proofs.lemmas.List.Elements.{All-drop}
 use Rattle.std.proofs.lemmas.List.FromFn.{length-range_with_len, get_or-range_with_len}
 use Rattle.std.proofs.lemmas.List.Sums.{fails_before_first, position_or_len_is}
-use Rattle.std.proofs.lemmas.Bool.{cases_lt, lt-ltb, le-ltb, lt-leb, leb-false, ltb-true, or_parts, or_from, and_parts, and_from, not-true, eqb-false, ne_eqb}
+use Rattle.std.proofs.lemmas.Bool.{cases_lt, lt-ltb, le-ltb, lt-leb, leb-false, ltb-true, or_parts, or_from, and_from, eqb-false, ne_eqb}
 use Rattle.std.proofs.lemmas.Bool.Decides.{nat_tests}
 use Rattle.std.proofs.lemmas.Option.{none-some, same_Some}
 use Rattle.relay.specs.Paths.{AllBelow, index_of, is_path, stands_in}
@@ -14,6 +14,7 @@ use Rattle.relay.specs.Tables.{wrong_at, first_wrong, no_path, table_length_of}
 use Rattle.midpoint.specs.Refusals.{first_applying}
 use Rattle.clock.specs.declared.limits.Cluster.{Cluster}
 use Rattle.relay.specs.Theorems.{PathsAreTaken}
+use Rattle.relay.proofs.Told.{path_parts}
 use Rattle.relay.proofs.Numbers.{index_below, index_small}
 
 -- the number of a row from a place on, one place earlier
@@ -124,9 +125,8 @@ fine_at n x row (suc k) h within free fine =
 fine_from : (n : ℕ) (row : List ℕ) → is_path n row ≡ true → (k : ℕ) → k < length row → wrong_at n row k ≡ false
 fine_from n [] path k h = absurd (omega (arith, h))
 fine_from n (x ∷ row) path k h =
-    let (front, behind) = and_parts (nat_lt x n && not (stands_in x row)) (is_path n row) path in
-    let (within, free) = and_parts (nat_lt x n) (not (stands_in x row)) front in
-    fine_at n x row k h (ltb-true x n within) (not-true (stands_in x row) free) (fine_from n row behind)
+    let p = path_parts n x row path in
+    fine_at n x row k h (ltb-true x n p.within) p.free (fine_from n row p.behind)
 
 no_wrong : (n : ℕ) (row : List ℕ) → ((k : ℕ) → k < length row → wrong_at n row k ≡ false) → first_wrong n row ≡ length row
 no_wrong n row fine =

@@ -2,7 +2,7 @@
 use Rattle.std.proofs.Common.{◌≡◌, ℕ, zero, suc, ◌+◌, ◌^◌, ◌<◌, Bool, true, false, not, ◌&&◌, ◌||◌, ◌==◌, nat_lt, List, [], ◌∷◌, length, map, get_or, slice_index, inl, inr, sym, refl, ap, ◌∙◌, arith}
 use Rattle.std.specs.List.{Contains, filter, range_with_len}
 use Rattle.std.proofs.Math.Nat.{pow-suc, one-le-pow}
-use Rattle.std.proofs.lemmas.Bool.{cases_Bool, or_parts, not-true, eqb-true, eqb-false, true≢false, false≢true, and_parts, and_from, ltb-true, lt-ltb}
+use Rattle.std.proofs.lemmas.Bool.{cases_Bool, or_parts, eqb-true, eqb-false, true≢false, false≢true, and_parts, and_from, ltb-true, lt-ltb}
 use Rattle.std.proofs.lemmas.Bool.Decides.{nat_tests}
 use Rattle.std.proofs.lemmas.Nat.{same_from_place, mul-le}
 use Rattle.std.proofs.lemmas.List.{get_or-set_same, get_or-map, length-drop}
@@ -21,6 +21,7 @@ use Rattle.relay.specs.Theorems.{IsPathBehind, turn_in, EnteredAll, RoundIsWhole
 use Rattle.relay.proofs.Lists.{list_by_index}
 use Rattle.relay.proofs.Numbers.{index_below, power_small, rows_long}
 use Rattle.relay.proofs.Order.{listed}
+use Rattle.relay.proofs.Told.{path_parts}
 use Rattle.relay.proofs.Counts.{paths_are_as_many}
 use Rattle.relay.proofs.Entering.{told_by_index}
 use Rattle.relay.proofs.Turns.{place_of, indices_rise, entry_within}
@@ -29,9 +30,8 @@ use Rattle.relay.proofs.Turns.{place_of, indices_rise, entry_within}
 path_below : (n : ℕ) (row : List ℕ) → is_path n row ≡ true → AllBelow n row
 path_below n [] path = All-nil (λ node. node < n)
 path_below n (node ∷ row) path =
-    let (front, behind) = and_parts (nat_lt node n && not (stands_in node row)) (is_path n row) path in
-    let (within, free) = and_parts (nat_lt node n) (not (stands_in node row)) front in
-    All-cons (λ node. node < n) node row (ltb-true node n within) (path_below n row behind)
+    let p = path_parts n node row path in
+    All-cons (λ node. node < n) node row (ltb-true node n p.within) (path_below n row p.behind)
 
 kept_in : (p : List ℕ → Bool) (all : List (List ℕ)) (x : List ℕ) → p x ≡ true → Contains all x → Contains (filter p all) x
 kept_in p [] x passes (k, h, is) = absurd (omega (arith, h))
@@ -61,9 +61,8 @@ only t path in_list =
 shorter_path : (t : Turn) (path : List ℕ) → IsPathBehind t path → IsTold t path
 shorter_path t path longer =
     let n = t.cluster.nodes in
-    let (front, is) = and_parts (nat_lt t.sender n && not (stands_in t.sender path)) (is_path n path) longer.with_sender in
-    let (within, free) = and_parts (nat_lt t.sender n) (not (stands_in t.sender path)) front in
-    record { as_long = longer.as_long; path_without_sender = and_from (is_path n path) (not (stands_in t.sender path)) is free }
+    let p = path_parts n t.sender path longer.with_sender in
+    record { as_long = longer.as_long; path_without_sender = and_from (is_path n path) (not (stands_in t.sender path)) p.behind (ap not p.free) }
 
 longer_path : (t : Turn) (path : List ℕ) → t.sender < t.cluster.nodes → IsTold t path → is_path t.cluster.nodes (t.sender ∷ path) ≡ true
 longer_path t path known told =
@@ -132,11 +131,10 @@ stays : (c : Cluster) (round : ℕ) (values : ℕ → List ℕ) (senders old new
     (node : ℕ) → node < c.nodes → stands_in node senders ≡ false → (row : List ℕ) → held_for c new (node ∷ row) ≡ held_for c old (node ∷ row)
 stays c round values [] old new path same node known free row = ap (λ table. held_for c table (node ∷ row)) same
 stays c round values (sender ∷ senders) old new path (between, entered, rest) node known free row =
-    let (front, behind) = and_parts (nat_lt sender c.nodes && not (stands_in sender senders)) (is_path c.nodes senders) path in
-    let (within, apart) = and_parts (nat_lt sender c.nodes) (not (stands_in sender senders)) front in
+    let p = path_parts c.nodes sender senders path in
     let (differs, others) = or_parts (sender == node) (stands_in node senders) free in
-    stays c round values senders between new behind rest node known others row
-    ∙ others_stay (turn_in c round sender) (values sender) old between (ltb-true sender c.nodes within) entered node row known (λ same. eqb-false sender node differs (sym same))
+    stays c round values senders between new p.behind rest node known others row
+    ∙ others_stay (turn_in c round sender) (values sender) old between (ltb-true sender c.nodes p.within) entered node row known (λ same. eqb-false sender node differs (sym same))
 
 other_stands : (a b : Bool) → a ≡ false → (a || b) ≡ true → b ≡ true
 other_stands true b fails holds = absurd (true≢false fails)
@@ -146,15 +144,13 @@ told_of_each : (c : Cluster) (round : ℕ) (values : ℕ → List ℕ) (senders 
     (sender : ℕ) → stands_in sender senders ≡ true → map (λ path. held_for c new (sender ∷ path)) (paths_of (turn_in c round sender)) ≡ values sender
 told_of_each c round values [] old new path same sender stands = absurd (false≢true stands)
 told_of_each c round values (first ∷ senders) old new path (between, entered, rest) sender stands =
-    let (front, behind) = and_parts (nat_lt first c.nodes && not (stands_in first senders)) (is_path c.nodes senders) path in
-    let (within, apart) = and_parts (nat_lt first c.nodes) (not (stands_in first senders)) front in
-    let free = not-true (stands_in first senders) apart in
-    let kept : (row : List ℕ) → held_for c new (first ∷ row) ≡ held_for c between (first ∷ row) = λ row. stays c round values senders between new behind rest first (ltb-true first c.nodes within) free row in
+    let p = path_parts c.nodes first senders path in
+    let kept : (row : List ℕ) → held_for c new (first ∷ row) ≡ held_for c between (first ∷ row) = λ row. stays c round values senders between new p.behind rest first (ltb-true first c.nodes p.within) p.free row in
     let here : map (λ path. held_for c new (first ∷ path)) (paths_of (turn_in c round first)) ≡ values first =
     (λ i. map (λ path. kept path i) (paths_of (turn_in c round first))) ∙ entered.told in
     elim (cases_Bool (first == sender)) [
       | inl same ↦ rw (eqb-true first sender same) at here
-      | inr differs ↦ told_of_each c round values senders between new behind rest sender (other_stands (first == sender) (stands_in sender senders) differs stands)
+      | inr differs ↦ told_of_each c round values senders between new p.behind rest sender (other_stands (first == sender) (stands_in sender senders) differs stands)
     ]
 
 -- so the entries of all paths of the round are those of what was entered

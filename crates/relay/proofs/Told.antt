@@ -6,7 +6,19 @@ use Rattle.relay.specs.Nodes.{among, added}
 use Rattle.relay.specs.Paths.{stands_in, is_path, is_path_without, row_at}
 use Rattle.relay.specs.declared.nodes.NodeSet.{NodeSet}
 
--- what is said of a row in front of which a node is put
+-- what is said of a path with a node in front
+pub record PathParts (n node : ℕ) (path : List ℕ) : Type 0 where
+  pub within : nat_lt node n ≡ true
+  pub free : stands_in node path ≡ false
+  pub behind : is_path n path ≡ true
+
+pub path_parts : (n node : ℕ) (path : List ℕ) → is_path n (node ∷ path) ≡ true → PathParts n node path
+path_parts n node path is =
+    let (front, behind) = and_parts (nat_lt node n && not (stands_in node path)) (is_path n path) is in
+    let (within, free) = and_parts (nat_lt node n) (not (stands_in node path)) front in
+    record { within = within; free = not-true (stands_in node path) free; behind = behind }
+
+-- and of one that a node tells of
 pub record Parts (n sender node : ℕ) (path : List ℕ) : Type 0 where
   pub of_cluster : nat_lt node n ≡ true
   pub stood_not : stands_in node path ≡ false
@@ -17,13 +29,12 @@ pub record Parts (n sender node : ℕ) (path : List ℕ) : Type 0 where
 pub parts : (n sender node : ℕ) (path : List ℕ) → is_path_without n sender (node ∷ path) ≡ true → Parts n sender node path
 parts n sender node path told =
     let (path_is, sender_free) = and_parts (is_path n (node ∷ path)) (not (stands_in sender (node ∷ path))) told in
-    let (front, behind) = and_parts (nat_lt node n && not (stands_in node path)) (is_path n path) path_is in
-    let (within, free) = and_parts (nat_lt node n) (not (stands_in node path)) front in
+    let p = path_parts n node path path_is in
     let (differs, others) = or_parts (node == sender) (stands_in sender path) (not-true (stands_in sender (node ∷ path)) sender_free) in
     record {
-      of_cluster = within;
-      stood_not = not-true (stands_in node path) free;
-      path_behind = behind;
+      of_cluster = p.within;
+      stood_not = p.free;
+      path_behind = p.behind;
       not_sender = differs;
       sender_not = others;
     }

@@ -3,21 +3,19 @@ use Rattle.std.proofs.Common.{◌≡◌, ℕ, suc, ◌+◌, ◌*◌, ◌^◌, �
 use Rattle.std.specs.List.{All, filter, range_with_len}
 use Rattle.std.specs.List.Sorted.{IsStrictlyIncreasing}
 use Rattle.std.proofs.Math.Nat.{pow-suc, pow-le-pow_right}
-use Rattle.std.proofs.lemmas.Nat.{mod_below, mul-add-lt}
+use Rattle.std.proofs.lemmas.Nat.{mul-add-lt}
 use Rattle.std.proofs.lemmas.List.FromFn.{length-range_with_len, get_or-range_with_len}
 use Rattle.std.proofs.lemmas.List.{get_or-map, length-map}
 use Rattle.std.proofs.lemmas.List.Elements.{All-filter, filter_passes, All-same}
 use Rattle.std.proofs.lemmas.List.Filters.{length-filter_both}
 use Rattle.std.proofs.lemmas.List.Kept.{AllPairs-from_increasing, IsStrictlyIncreasing-filter}
 use Rattle.frame.specs.Layout.{place_in_cycle}
+use Rattle.frame.proofs.Counts.{within_cycle}
 use Rattle.frame.specs.declared.turn.Turn.{Turn}
 use Rattle.relay.specs.Paths.{index_of, is_path_without, rows, row_at}
 use Rattle.relay.specs.Tables.{table_length_of}
 use Rattle.relay.specs.Telling.{paths_of, IsTold}
 use Rattle.relay.proofs.Numbers.{numbers_where, rows_long, range_below}
-
-pub within_cycle : (t : Turn) → place_in_cycle t.cluster t.round ≤ t.cluster.faults
-within_cycle t = omega (arith, mod_below t.round (t.cluster.faults + 1) (omega arith))
 
 -- how many nodes the paths have, and their numbers
 abbrev pub place_of : Turn → ℕ

@@ -2,7 +2,7 @@ use Rattle.std.proofs.Common.{◌≡◌, ℕ, ◌^◌, ◌≤◌, arith}
 use Rattle.frame.specs.Layout.{place_in_cycle}
 use Rattle.frame.specs.declared.turn.Turn.{Turn}
 use Rattle.relay.proofs.Numbers.{power_small}
-use Rattle.relay.proofs.Turns.{within_cycle}
+use Rattle.frame.proofs.Counts.{within_cycle}
 use Rattle.relay.proofs.Left.{left_at_start}
 use Rattle.relay.proofs.indices.PathIndices.of.Goals as goal
 
