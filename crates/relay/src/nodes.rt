@@ -1,5 +1,5 @@
 //! Sets of nodes of a cluster.
-ghost use Rattle.std.specs.Prelude.{◌≡◌, ℕ, false, true, nat_lt};
+ghost use Rattle.std.specs.Prelude.{◌≡◌, ℕ, false, nat_lt};
 ghost use Rattle.relay.specs.Nodes.{among, added};
 
 use midpoint::MAX_NODES;
