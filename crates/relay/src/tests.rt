@@ -222,48 +222,47 @@ fn third_round_of_seven(rt: HostRuntime) -> Result<(), Fail> {
     Ok(())
 }
 
-// In the table that is read each entry is a hundred more than its index. The sender tells of 15 * 14 * 13 paths.
+// A whole cycle of node 5: in its four rounds it tells of 1, 15, 15 * 14 and 15 * 14 * 13 paths, of as many nodes as the
+// round's place. In the table that is read each entry is a hundred more than its index.
 #[test]
-fn last_round_of_sixteen(rt: HostRuntime) -> Result<(), Fail> {
-    let turn = turn_of(16, 3, 5, 7)?;
+fn cycle_of_sixteen(rt: HostRuntime) -> Result<(), Fail> {
     let mut read = [0; MAX_TABLE_LENGTH];
     for index in 0..MAX_TABLE_LENGTH {
         read[index] = index as u32 + 100;
     }
-    let mut memory = [0; 10_925];
-    Telling::new(turn, &read)?.write(&mut memory)?;
-    let payload = turn.read(&memory)?;
-    let mut written = [9; MAX_TABLE_LENGTH];
-    assert_eq!(rt; enter_heard(&turn, payload, &mut written), Ok(()));
-    let mut place = 0;
-    for last in 0..16 {
-        for second in 0..16 {
-            for first in 0..16 {
-                let is_path = first != second && first != last && second != last;
-                let is_path_without = is_path && first != 5 && second != 5 && last != 5;
-                let row = 256 * last + 16 * second + first;
-                let number = row as u32 + 100;
-                if is_path_without {
-                    assert_eq!(rt; value(payload, place), Some(number));
-                    assert!(rt; place < 2730);
-                    place += 1;
-                }
-                for front in 0..16 {
-                    let entry = written[16 * row + front];
-                    assert_eq!(rt;
-                        entry,
-                        if is_path_without && front == 5 {
-                            number
-                        } else {
-                            9
-                        }
-                    );
-                }
+    for (place, rows, count) in [(0, 1, 1), (1, 16, 15), (2, 256, 210), (3, 4096, 2730)] {
+        let turn = turn_of(16, 3, 5, 4 + place as u64)?;
+        let mut memory = [0; 10_925];
+        let length = Telling::new(turn, &read)?.write(&mut memory)?;
+        assert_eq!(rt; length, 5 + 4 * count);
+        let payload = turn.read(&memory[..length])?;
+        let mut written = [9; MAX_TABLE_LENGTH];
+        assert_eq!(rt; enter_heard(&turn, payload, &mut written), Ok(()));
+        let mut told = 0;
+        for row in 0..rows {
+            let nodes = [row % 16, row / 16 % 16, row / 256];
+            let path = &nodes[..place];
+            let is_told = is_path_without(path, 5);
+            let number = row as u32 + 100;
+            if is_told {
+                assert_eq!(rt; value(payload, told), Some(number));
+                assert!(rt; told < count);
+                told += 1;
+            }
+            for front in 0..16 {
+                let entry = written[16 * row + front];
+                assert_eq!(rt; entry, if is_told && front == 5 { number } else { 9 });
             }
         }
+        assert_eq!(rt; told, count);
+        assert!(rt; written[16 * rows..].iter().all(|entry| *entry == 9));
     }
-    assert_eq!(rt; place, 2730);
     Ok(())
+}
+
+// Whether no node of a row stands twice, or is this one.
+fn is_path_without(row: &[usize], node: usize) -> bool {
+    (0..row.len()).all(|place| row[place] != node && !row[..place].contains(&row[place]))
 }
 
 #[test]
