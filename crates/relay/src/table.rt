@@ -21,10 +21,9 @@ pub fn table_length(cluster: &Cluster) -> usize
 
 /// What a table holds for a path, the node that told last standing first: what that node told of the rest of the path, if the
 /// path has one node more than the place of the round in which the table was written. A table does not say of which
-/// round it is, and an index is that of a path of each length, so for other paths the answer means nothing.
-/// A table of another length than the cluster needs is refused, 10 at the length needed; then
-/// a path of no nodes or of more than a cycle has rounds, 11 at its length; then one with a node that is past the
-/// cluster or stood before, 11 at the first such.
+/// round it is, and an index is that of a path of each length, so for other paths the answer means nothing. A table of
+/// another length than the cluster needs is refused, 10 at the length needed; then a path of no nodes or of more than a
+/// cycle has rounds, 11 at its length; then one with a node that is past the cluster or stood before, 11 at the first such.
 pub fn held_for(cluster: &Cluster, table: &[u32], path: &[u8]) -> Result<u32, Refusal>
     ensures { ByRows (unfit cluster.now table.now ∷ no_path cluster.now path.now) (λ e. e) (λ value. value ≡ held_for cluster.now table.now path.now) result }
 {
@@ -35,8 +34,8 @@ pub fn held_for(cluster: &Cluster, table: &[u32], path: &[u8]) -> Result<u32, Re
 
 /// Puts the value that a node gives in a new cycle into its table, from which it tells in the cycle's first round; all
 /// other entries stay as they were. In a cluster that allows no faults this entry is also the one of node 0 in the round
-/// before, so what that cycle came to is to be looked up first. A table of another length than the cluster needs is refused, 10 at the length
-/// needed, and is left as it was.
+/// before, so what that cycle came to is to be looked up first. A table of another length than the cluster needs is
+/// refused, 10 at the length needed, and is left as it was.
 #[tactic(auto, using(crate::proofs::Places::some_entry))]
 pub fn begin_cycle(cluster: &Cluster, table: &mut [u32], value: u32) -> Result<(), Refusal>
     ensures answer { ByRows (unfit cluster.now table.old ∷ []) (λ e. e) (λ _. Unit {0}) result }

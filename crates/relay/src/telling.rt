@@ -113,7 +113,7 @@ fn fill_from(turn: &Turn, table: &[u32], payload: &mut [u8])
     }
 }
 
-// What a table holds at a number, or 0 where there is none.
+// What a table holds at an index, or 0 where there is none.
 fn held_at(table: &[u32], index: Option<usize>) -> u32
     ensures { MatchOption index (result ≡ 0) (λ index. result ≡ slice_index table.now index) }
 {
@@ -158,7 +158,7 @@ fn put_own(turn: &Turn, read: &[u32], written: &mut [u32])
     }
 }
 
-// Enters a value for the sender in front of the path with this number.
+// Enters a value for the sender in front of the path with this index.
 fn put(turn: &Turn, index: usize, value: u32, written: &mut [u32])
     requires { index * turn.now.cluster.nodes + turn.now.sender < length written.old }
     ensures { written.new ≡ slice_set written.old (index * turn.now.cluster.nodes + turn.now.sender) value }
