@@ -15,7 +15,7 @@ Rises m [] = Unit {0}
 Rises m (x ∷ xs) = (m ≤ x) × Rises x xs
 
 -- std's count is the same number
-count_is : (test : ℕ → Bool) (xs : List ℕ) → count test xs ≡ count_by test xs
+pub count_is : (test : ℕ → Bool) (xs : List ℕ) → count test xs ≡ count_by test xs
 unfolding count
 count_is test xs = is_sum_by (count test) (λ x. cond (test x) 1 0) refl (λ x xs. refl) xs
 

@@ -1,11 +1,11 @@
 mod Sets
 mod Lists
-mod Turns
-mod Numbers
+pub mod Turns
+pub mod Numbers
 mod Places
-mod Told
+pub mod Told
 mod Left
-mod Entering
+pub mod Entering
 mod Order
 mod Counts
-mod Relaying
+pub mod Relaying

@@ -11,7 +11,7 @@
 #![tactic(auto)]
 
 mod indices;
-mod nodes;
+pub mod nodes;
 mod path;
 pub mod refusal;
 pub mod table;
@@ -20,6 +20,7 @@ pub mod telling;
 mod tests;
 pub mod theorems;
 
+pub use nodes::NodeSet;
 pub use refusal::Refusal;
-pub use table::{MAX_TABLE_LENGTH, begin_cycle, held_for, table_length};
+pub use table::{MAX_TABLE_LENGTH, begin_cycle, fits, held_for, table_length};
 pub use telling::{Telling, enter_heard, enter_reception, enter_silence};

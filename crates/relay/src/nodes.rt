@@ -4,15 +4,15 @@ ghost use Rattle.relay.specs.Nodes.{among, added};
 
 use midpoint::MAX_NODES;
 
-// A set of nodes, which have the numbers 0 to 15: a bit for each, the lowest for node 0.
+/// A set of nodes, which have the numbers 0 to 15: a bit for each, the lowest for node 0.
 #[derive(Clone, Copy, PartialEq, Eq, Debug)]
-pub(crate) struct NodeSet {
+pub struct NodeSet {
     bits: u16,
 }
 
 impl NodeSet {
-    // The set of no nodes.
-    pub(crate) fn empty() -> NodeSet
+    /// The set of no nodes.
+    pub fn empty() -> NodeSet
         ensures { (node : ℕ) → among result node ≡ false }
     {
         NodeSet { bits: 0 }
@@ -26,16 +26,16 @@ impl NodeSet {
         NodeSet { bits: u16::MAX }
     }
 
-    // Whether a node is in the set; one past 15 is in none.
-    pub(crate) fn has(self, node: usize) -> bool
+    /// Whether a node is in the set; one past 15 is in none.
+    pub fn has(self, node: usize) -> bool
         ensures { result ≡ among self node }
     {
         node < MAX_NODES && self.bits >> node & 1 == 1
     }
 
-    // The set with one node more; one past 15 is left out.
+    /// The set with one node more; one past 15 is left out.
     #[tactic(auto, using(crate::proofs::Sets::one_more))]
-    pub(crate) fn with(self, node: usize) -> NodeSet
+    pub fn with(self, node: usize) -> NodeSet
         ensures { (other : ℕ) → among result other ≡ added (among self) node other }
     {
         if node < MAX_NODES {

@@ -46,8 +46,8 @@ pub fn begin_cycle(cluster: &Cluster, table: &mut [u32], value: u32) -> Result<(
     Ok(())
 }
 
-// Whether a table has the length that the cluster needs.
-pub(crate) fn fits(cluster: &Cluster, table: &[u32]) -> Result<(), Refusal>
+/// Whether a table has the length that the cluster needs; one of another length is refused, 10 at the length needed.
+pub fn fits(cluster: &Cluster, table: &[u32]) -> Result<(), Refusal>
     ensures { ByRows (unfit cluster.now table.now ∷ []) (λ e. e) (λ _. Unit {0}) result }
 {
     let needed = table_length(cluster);

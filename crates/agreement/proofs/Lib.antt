@@ -1,0 +1,4 @@
+mod Majorities
+mod Pairs
+mod Fronts
+mod Made

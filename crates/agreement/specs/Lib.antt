@@ -1,0 +1,4 @@
+pub mod Majority
+pub mod Pairs
+pub mod Results
+pub mod Rows

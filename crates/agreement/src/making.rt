@@ -1,0 +1,69 @@
+//! What a node makes of a path, and its results of a cycle.
+ghost use Rattle.std.specs.Prelude.{◌≡◌, ◌+◌, ◌^◌, ◌≤◌, List, ℕ, length, map, take};
+ghost use Rattle.std.specs.Result.{MatchResult};
+ghost use Rattle.midpoint.specs.Refusals.{ByRows};
+ghost use Rattle.agreement.specs.Results.{nodes_off, made_of, results_of, unfit};
+ghost use Rattle.agreement.specs.Rows.{row_of, held_in, made_in};
+
+use crate::most::majority;
+use crate::path::Path;
+use crate::refusal::Refusal;
+use clock::Cluster;
+use midpoint::MAX_NODES;
+use relay::fits;
+
+/// The results of a cycle, one for each node in order, from the table that a node holds when it is over: what it makes of the
+/// path of that node alone. A table of another length than the cluster needs is refused, 10 at the length needed; then memory
+/// with another number of places than the cluster has nodes, 10 at that number; the memory is then left as it was.
+pub fn results(cluster: &Cluster, table: &[u32], memory: &mut [u32]) -> Result<(), Refusal>
+    ensures answer { ByRows (unfit cluster.now table.now memory.old) (λ e. e) (λ _. Unit {0}) result }
+    ensures memory { MatchResult result (λ _. memory.new ≡ results_of cluster.now table.now) (λ _. memory.new ≡ memory.old) }
+{
+    fits(cluster, table)?;
+    let nodes = cluster.nodes() as usize;
+    if memory.len() != nodes {
+        return Err(Refusal::ResultsLength { needed: nodes });
+    }
+    let no_nodes = Path::empty(nodes);
+    for node in 0..nodes {
+        memory[node] = made_of(table, no_nodes.with(node), cluster.faults());
+    }
+    Ok(())
+}
+
+// What is made of a path, where so many tellings are left: what the table holds for it if none is; else the majority of what is
+// made of the paths with one more node in front.
+#[cycle(made_of)]
+fn made_of(table: &[u32], path: Path, left: u64) -> u32
+    requires fits { length table.now ≡ path.cluster_nodes ^ (path.length + left) }
+    requires short { path.length + left ≤ 4 }
+    ensures { result ≡ made_of path.cluster_nodes left (held_in path.cluster_nodes table.now) (row_of path) }
+{
+    match left.checked_sub(1) {
+        Some(left) => {
+            let mut values = [0; MAX_NODES];
+            let count = made_of_each(table, path, left, &mut values);
+            majority(&values[..count])
+        }
+        None => table[path.index],
+    }
+}
+
+// What is made of each of the paths with one more node in front of this one, for each node that is not on it; and how many they are.
+#[cycle(made_of)]
+fn made_of_each(table: &[u32], path: Path, left: u64, values: &mut [u32]) -> usize
+    requires fits { length table.now ≡ path.cluster_nodes ^ (path.length + left + 1) }
+    requires short { path.length + left + 1 ≤ 4 }
+    requires room { path.cluster_nodes ≤ length values.old }
+    ensures few { result ≤ length values.new }
+    ensures values { take result values.new ≡ map (made_in path left table.now) (nodes_off path.cluster_nodes (row_of path)) }
+{
+    let mut count = 0;
+    for node in 0..path.cluster_nodes {
+        if !path.holds(node) {
+            values[count] = made_of(table, path.with(node), left);
+            count += 1;
+        }
+    }
+    count
+}

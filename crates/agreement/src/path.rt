@@ -1,0 +1,62 @@
+//! Paths of a cluster, and which nodes are on them.
+ghost use Rattle.std.specs.Prelude.{◌≡◌, ℕ, ◌+◌, ◌^◌, ◌<◌, ◌≤◌, [], ◌∷◌};
+ghost use Rattle.relay.specs.Nodes.{among};
+ghost use Rattle.relay.specs.Paths.{stands_in, row_at};
+
+use relay::NodeSet;
+
+// A row of nodes, by its index: how many nodes it has, and which.
+#[derive(Clone, Copy)]
+pub(crate) struct Path {
+    pub(crate) cluster_nodes: usize,
+    length: u64,
+    pub(crate) index: usize,
+    on_it: NodeSet,
+    ghost few: { cluster_nodes ≤ 16 },
+    ghost short: { length ≤ 4 },
+    ghost within: { index < cluster_nodes ^ length },
+    ghost stand: { (node : ℕ) → node < cluster_nodes → among on_it node ≡ stands_in node (row_at cluster_nodes length index) },
+}
+
+impl Path {
+    ghost use Rattle.agreement.specs.Rows.{row_of};
+
+    // The path of no nodes, of a cluster with so many.
+    pub(crate) fn empty(cluster_nodes: usize) -> Path
+        requires { cluster_nodes ≤ 16 }
+        ensures cluster { result.cluster_nodes ≡ cluster_nodes }
+        ensures length { result.length ≡ 0 }
+        ensures row { row_of result ≡ [] }
+    {
+        Path {
+            cluster_nodes,
+            length: 0,
+            index: 0,
+            on_it: NodeSet::empty(),
+        }
+    }
+
+    // The path with one more node in front.
+    pub(crate) fn with(self, node: usize) -> Path
+        requires of_cluster { node < self.cluster_nodes }
+        requires short { self.length < 4 }
+        ensures cluster { result.cluster_nodes ≡ self.cluster_nodes }
+        ensures length { result.length ≡ self.length + 1 }
+        ensures row { row_of result ≡ node ∷ row_of self }
+    {
+        Path {
+            cluster_nodes: self.cluster_nodes,
+            length: self.length + 1,
+            index: self.index * self.cluster_nodes + node,
+            on_it: self.on_it.with(node),
+        }
+    }
+
+    // Whether a node of the cluster is on the path.
+    pub(crate) fn holds(self, node: usize) -> bool
+        requires { node < self.cluster_nodes }
+        ensures { result ≡ stands_in node (row_of self) }
+    {
+        self.on_it.has(node)
+    }
+}
