@@ -1,12 +1,13 @@
 -- What is made of paths, a node at a time. Assumes nothing.
-use Rattle.std.proofs.Common.{◌≡◌, ℕ, suc, ◌+◌, ◌^◌, ◌<◌, Bool, true, false, cond, List, [], ◌∷◌, ◌++◌, length, map, take, slice_index, slice_set, sym, refl, ap, ◌∙◌, arith}
+use Rattle.std.proofs.Common.{◌≡◌, ℕ, suc, ◌+◌, ◌-◌, ◌^◌, ◌<◌, Bool, true, false, cond, List, [], ◌∷◌, ◌++◌, length, map, take, slice_index, slice_set, sym, refl, ap, ◌∙◌, arith}
 use Rattle.std.specs.List.{filter, range_with_len}
 use Rattle.std.proofs.lemmas.List.{take_more_set, append-nil, map-append, map-id}
 use Rattle.std.proofs.lemmas.List.FromFn.{filter_of_map_range_with_len_more}
 use Rattle.relay.specs.Paths.{row_at}
 use Rattle.relay.proofs.Numbers.{number_of_row_at}
 use Rattle.agreement.specs.Majority.{majority}
-use Rattle.agreement.specs.Results.{nodes_off, made_of}
+use Rattle.clock.specs.declared.limits.Cluster.{Cluster}
+use Rattle.agreement.specs.Results.{made_for, nodes_off, made_of}
 use Rattle.agreement.specs.Rows.{held_in}
 
 -- the two cases of what is made of a path
@@ -52,3 +53,9 @@ left_out test f n count values fails so_far =
 pub made_same : {n m : ℕ} {row other : List ℕ} (left : ℕ) (table : List ℕ) → m ≡ n → other ≡ row →
     made_of m left (held_in m table) other ≡ made_of n left (held_in n table) row
 made_same {n} {m} {row} {other} left table cluster same = ap (λ k. made_of k left (held_in k table) other) cluster ∙ ap (made_of n left (held_in n table)) same
+
+-- and of one that is given as a row
+pub made_of_row : (c : Cluster) (table row other : List ℕ) (m left : ℕ) → m ≡ c.nodes → left ≡ c.faults + 1 - length row → other ≡ row →
+    made_of m left (held_in m table) other ≡ made_for c table row
+made_of_row c table row other m left nodes tellings same =
+    made_same left table nodes same ∙ ap (λ left. made_of c.nodes left (held_in c.nodes table) row) tellings

@@ -1,5 +1,5 @@
 -- What a node makes of paths, and its results of a cycle. Assumes nothing: these are definitions.
-use Rattle.std.specs.Prelude.{ℕ, zero, suc, not, List, [], ◌∷◌, map, length, ◌==◌}
+use Rattle.std.specs.Prelude.{ℕ, ◌+◌, ◌-◌, zero, suc, not, List, [], ◌∷◌, map, length, ◌==◌}
 use Rattle.std.specs.List.{filter, range_with_len}
 use Rattle.midpoint.specs.Refusals.{Row, refused_if}
 use Rattle.midpoint.specs.declared.refusal.Code.{Code}
@@ -20,6 +20,10 @@ nodes_off n path = filter (λ node. not (stands_in node path)) (range_with_len 0
 unfoldable pub made_of : ℕ → ℕ → (List ℕ → ℕ) → List ℕ → ℕ
 made_of n zero held path = held path
 made_of n (suc left) held path = majority (map (λ node. made_of n left held (node ∷ path)) (nodes_off n path))
+
+-- what it makes of a path by its table when the cycle is over, which has one telling more than faults are allowed
+abbrev pub made_for : Cluster → List ℕ → List ℕ → ℕ
+made_for c table path = made_of c.nodes (c.faults + 1 - length path) (held_for c table) path
 
 -- Its result for a node, of a cluster of n that allows so many faults, is what it makes of the path of this node alone, which has been told once; a cycle has one
 -- telling more than faults are allowed.

@@ -16,6 +16,6 @@ pub mod refusal;
 mod tests;
 pub mod theorems;
 
-pub use making::results;
+pub use making::{made_of, results};
 pub use most::majority;
 pub use refusal::Refusal;

@@ -1,8 +1,10 @@
 //! What a node makes of a path, and its results of a cycle.
-ghost use Rattle.std.specs.Prelude.{◌≡◌, ◌+◌, ◌^◌, ◌≤◌, List, ℕ, length, map, take};
+ghost use Rattle.std.specs.Prelude.{◌≡◌, ◌+◌, ◌^◌, ◌≤◌, ◌∷◌, List, ℕ, length, map, take};
 ghost use Rattle.std.specs.Result.{MatchResult};
 ghost use Rattle.midpoint.specs.Refusals.{ByRows};
-ghost use Rattle.agreement.specs.Results.{nodes_off, made_of, results_of, unfit};
+ghost use Rattle.relay.specs.Tables as of_tables;
+ghost use Rattle.relay.specs.Tables.{no_path};
+ghost use Rattle.agreement.specs.Results.{made_for, nodes_off, made_of, results_of, unfit};
 ghost use Rattle.agreement.specs.Rows.{row_of, held_in, made_in};
 
 use crate::most::majority;
@@ -10,7 +12,7 @@ use crate::path::Path;
 use crate::refusal::Refusal;
 use clock::Cluster;
 use midpoint::MAX_NODES;
-use relay::fits;
+use relay::{fits, known_path};
 
 /// The results of a cycle, one for each node in order, from the table that a node holds when it is over: what it makes of the
 /// path of that node alone. A table of another length than the cluster needs is refused, 10 at the length needed; then memory
@@ -26,15 +28,28 @@ pub fn results(cluster: &Cluster, table: &[u32], memory: &mut [u32]) -> Result<(
     }
     let no_nodes = Path::empty(nodes);
     for node in 0..nodes {
-        memory[node] = made_of(table, no_nodes.with(node), cluster.faults());
+        memory[node] = made_of_path(table, no_nodes.with(node), cluster.faults());
     }
     Ok(())
 }
 
+/// What a node makes of a path, from the table that it holds when a cycle is over: of one with as many nodes as a cycle has
+/// rounds, what it holds for it; of a shorter one the majority of what it makes of the paths with one more node in front, for
+/// each node that is not on it. What `relay::held_for` refuses is refused, in the same order.
+#[tactic(auto, using(relay::proofs::Places::taken_below, relay::proofs::Places::taken_short, crate::proofs::Made::made_of_row))]
+pub fn made_of(cluster: &Cluster, table: &[u32], path: &[u8]) -> Result<u32, relay::Refusal>
+    ensures { ByRows (of_tables.unfit cluster.now table.now ∷ no_path cluster.now path.now) (λ e. e) (λ value. value ≡ made_for cluster.now table.now path.now) result }
+{
+    fits(cluster, table)?;
+    known_path(cluster, path)?;
+    let path = Path::of(cluster.nodes() as usize, path);
+    Ok(made_of_path(table, path, cluster.faults() + 1 - path.length))
+}
+
 // What is made of a path, where so many tellings are left: what the table holds for it if none is; else the majority of what is
 // made of the paths with one more node in front.
-#[cycle(made_of)]
-fn made_of(table: &[u32], path: Path, left: u64) -> u32
+#[cycle(made_of_path)]
+fn made_of_path(table: &[u32], path: Path, left: u64) -> u32
     requires fits { length table.now ≡ path.cluster_nodes ^ (path.length + left) }
     requires short { path.length + left ≤ 4 }
     ensures { result ≡ made_of path.cluster_nodes left (held_in path.cluster_nodes table.now) (row_of path) }
@@ -42,7 +57,7 @@ fn made_of(table: &[u32], path: Path, left: u64) -> u32
     match left.checked_sub(1) {
         Some(left) => {
             let mut values = [0; MAX_NODES];
-            let count = made_of_each(table, path, left, &mut values);
+            let count = made_of_longer(table, path, left, &mut values);
             majority(&values[..count])
         }
         None => table[path.index],
@@ -50,8 +65,8 @@ fn made_of(table: &[u32], path: Path, left: u64) -> u32
 }
 
 // What is made of each of the paths with one more node in front of this one, for each node that is not on it; and how many they are.
-#[cycle(made_of)]
-fn made_of_each(table: &[u32], path: Path, left: u64, values: &mut [u32]) -> usize
+#[cycle(made_of_path)]
+fn made_of_longer(table: &[u32], path: Path, left: u64, values: &mut [u32]) -> usize
     requires fits { length table.now ≡ path.cluster_nodes ^ (path.length + left + 1) }
     requires short { path.length + left + 1 ≤ 4 }
     requires room { path.cluster_nodes ≤ length values.old }
@@ -61,7 +76,7 @@ fn made_of_each(table: &[u32], path: Path, left: u64, values: &mut [u32]) -> usi
     let mut count = 0;
     for node in 0..path.cluster_nodes {
         if !path.holds(node) {
-            values[count] = made_of(table, path.with(node), left);
+            values[count] = made_of_path(table, path.with(node), left);
             count += 1;
         }
     }

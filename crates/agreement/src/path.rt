@@ -1,7 +1,7 @@
 //! Paths of a cluster, and which nodes are on them.
-ghost use Rattle.std.specs.Prelude.{◌≡◌, ℕ, ◌+◌, ◌^◌, ◌<◌, ◌≤◌, [], ◌∷◌};
+ghost use Rattle.std.specs.Prelude.{◌≡◌, ℕ, ◌+◌, ◌^◌, ◌<◌, ◌≤◌, [], ◌∷◌, length};
 ghost use Rattle.relay.specs.Nodes.{among};
-ghost use Rattle.relay.specs.Paths.{stands_in, row_at};
+ghost use Rattle.relay.specs.Paths.{AllBelow, stands_in, row_at};
 
 use relay::NodeSet;
 
@@ -9,7 +9,7 @@ use relay::NodeSet;
 #[derive(Clone, Copy)]
 pub(crate) struct Path {
     pub(crate) cluster_nodes: usize,
-    length: u64,
+    pub(crate) length: u64,
     pub(crate) index: usize,
     on_it: NodeSet,
     ghost few: { cluster_nodes ≤ 16 },
@@ -34,6 +34,22 @@ impl Path {
             index: 0,
             on_it: NodeSet::empty(),
         }
+    }
+
+    // The path that a row of nodes is.
+    pub(crate) fn of(cluster_nodes: usize, row: &[u8]) -> Path
+        requires few { cluster_nodes ≤ 16 }
+        requires short { length row.now ≤ 4 }
+        requires row { AllBelow cluster_nodes row.now }
+        ensures cluster { result.cluster_nodes ≡ cluster_nodes }
+        ensures length { result.length ≡ length row.now }
+        ensures row { row_of result ≡ row.now }
+    {
+        let mut path = Path::empty(cluster_nodes);
+        for place in (0..row.len()).rev() {
+            path = path.with(row[place] as usize);
+        }
+        path
     }
 
     // The path with one more node in front.

@@ -2,7 +2,7 @@ mod Sets
 mod Lists
 pub mod Turns
 pub mod Numbers
-mod Places
+pub mod Places
 pub mod Told
 mod Left
 pub mod Entering

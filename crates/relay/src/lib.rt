@@ -12,7 +12,7 @@
 
 mod indices;
 pub mod nodes;
-mod path;
+pub mod path;
 pub mod refusal;
 pub mod table;
 pub mod telling;
@@ -21,6 +21,7 @@ mod tests;
 pub mod theorems;
 
 pub use nodes::NodeSet;
+pub use path::known_path;
 pub use refusal::Refusal;
 pub use table::{MAX_TABLE_LENGTH, begin_cycle, fits, held_for, table_length};
 pub use telling::{Telling, enter_heard, enter_reception, enter_silence};

@@ -17,9 +17,10 @@ pub(crate) fn path_index(cluster: &Cluster, row: &[u8]) -> Result<usize, Refusal
     Ok(index_of(cluster.nodes() as usize, row))
 }
 
-// Whether a row of nodes is a path that the cluster's tables have.
+/// Whether a row of nodes is a path that the cluster's tables have. One of no nodes, or of more than a cycle has rounds, is
+/// refused, 11 at its length; then one with a node that is past the cluster or stood before, 11 at the first such.
 #[tactic(auto, using(crate::proofs::Places::some_wrong, crate::proofs::Places::none_wrong))]
-fn known_path(cluster: &Cluster, row: &[u8]) -> Result<(), Refusal>
+pub fn known_path(cluster: &Cluster, row: &[u8]) -> Result<(), Refusal>
     ensures { ByRows (no_path cluster.now row.now) (λ e. e) (λ _. Unit {0}) result }
 {
     let length = row.len();
