@@ -2,3 +2,8 @@ mod Majorities
 mod Pairs
 mod Fronts
 mod Made
+mod Others
+mod Agreeing
+mod Cycles
+mod Examples
+mod Possible

@@ -1,29 +1,32 @@
 -- What is made of paths, a node at a time. Assumes nothing.
-use Rattle.std.proofs.Common.{◌≡◌, ℕ, suc, ◌+◌, ◌-◌, ◌^◌, ◌<◌, Bool, true, false, cond, List, [], ◌∷◌, ◌++◌, length, map, take, slice_index, slice_set, sym, refl, ap, ◌∙◌, arith}
+use Rattle.std.proofs.Common.{◌≡◌, ℕ, suc, ◌+◌, ◌-◌, ◌^◌, ◌≤◌, ◌<◌, Bool, true, false, cond, List, [], ◌∷◌, ◌++◌, length, map, take, slice_index, slice_set, sym, refl, ap, ◌∙◌, arith}
 use Rattle.std.specs.List.{filter, range_with_len}
 use Rattle.std.proofs.lemmas.List.{take_more_set, append-nil, map-append, map-id}
-use Rattle.std.proofs.lemmas.List.FromFn.{filter_of_map_range_with_len_more}
+use Rattle.std.proofs.lemmas.List.FromFn.{filter_of_map_range_with_len_more, fill_by_all, get_or-map-range_with_len}
 use Rattle.relay.specs.Paths.{row_at}
+use Rattle.relay.specs.Tables.{held_for}
 use Rattle.relay.proofs.Numbers.{number_of_row_at}
 use Rattle.agreement.specs.Majority.{majority}
 use Rattle.clock.specs.declared.limits.Cluster.{Cluster}
-use Rattle.agreement.specs.Results.{made_for, nodes_off, made_of}
+use Rattle.agreement.specs.Results.{made_for, nodes_off, made_of, result_for, results_of}
 use Rattle.agreement.specs.Rows.{held_in}
+use Rattle.agreement.specs.Theorems.{ResultsAreMade}
 
--- the two cases of what is made of a path
-pub made_none : (n left : ℕ) (held : List ℕ → ℕ) (path : List ℕ) → left ≡ 0 → made_of n left held path ≡ held path
+-- the two cases of what is made of a path: where no telling is left the table has it, at the path's index
+pub made_last : (n length index left : ℕ) (table : List ℕ) → index < n ^ length → (1 ≤ left → ⊥) →
+    slice_index table index ≡ made_of n left (held_in n table) (row_at n length index)
 unfolding made_of
-made_none n left held path none = rw none refl
+made_last n length index left table within not_more =
+    let none : left ≡ 0 = grind (arith, not_more) in
+    ap (slice_index table) (sym (number_of_row_at n length index within)) ∙ ap (λ k. made_of n k (held_in n table) (row_at n length index)) (sym none)
 
-pub made_more : (n left fewer : ℕ) (held : List ℕ → ℕ) (path : List ℕ) → left ≡ suc fewer →
-    made_of n left held path ≡ majority (map (λ node. made_of n fewer held (node ∷ path)) (nodes_off n path))
+-- else it is the majority of a list
+pub made_of_list : (n left : ℕ) (held : List ℕ → ℕ) (path values : List ℕ) → 1 ≤ left →
+    values ≡ map (λ node. made_of n (left - 1) held (node ∷ path)) (nodes_off n path) → majority values ≡ made_of n left held path
 unfolding made_of
-made_more n left fewer held path more = rw more refl
-
--- where no telling is left the table has it, at the path's index
-pub made_at : (n length index : ℕ) (table : List ℕ) → index < n ^ length → slice_index table index ≡ made_of n 0 (held_in n table) (row_at n length index)
-unfolding made_of
-made_at n length index table within = ap (slice_index table) (sym (number_of_row_at n length index within))
+made_of_list n left held path values some are =
+    let more : left ≡ suc (left - 1) = omega (arith, some) in
+    ap majority are ∙ ap (λ k. made_of n k held path) (sym more)
 
 -- the numbers below one more that pass a test
 filter_more : (test : ℕ → Bool) (n : ℕ) → filter test (range_with_len 0 (n + 1)) ≡ filter test (range_with_len 0 n) ++ cond (test n) (n ∷ []) []
@@ -59,3 +62,18 @@ pub made_of_row : (c : Cluster) (table row other : List ℕ) (m left : ℕ) → 
     made_of m left (held_in m table) other ≡ made_for c table row
 made_of_row c table row other m left nodes tellings same =
     made_same left table nodes same ∙ ap (λ left. made_of c.nodes left (held_in c.nodes table) row) tellings
+
+-- the results when each is there
+pub all_results : (c : Cluster) (table memory : List ℕ) → length memory ≡ c.nodes →
+    ((k : ℕ) → k < c.nodes → slice_index memory k ≡ result_for c.nodes c.faults (held_for c table) k) → memory ≡ results_of c table
+all_results c table memory long each = fill_by_all (result_for c.nodes c.faults (held_for c table)) memory c.nodes 0 long each
+
+pub results_are_made : ResultsAreMade
+unfolding made_of
+results_are_made c table = record {
+  alone = λ r h.
+      let tellings : c.faults ≡ c.faults + 1 - 1 = omega arith in
+      get_or-map-range_with_len (result_for c.nodes c.faults (held_for c table)) 0 c.nodes r r 0 h (omega arith)
+      ∙ ap (λ left. made_of c.nodes left (held_for c table) (r ∷ [])) tellings;
+  told_last = λ path long. let none : c.faults + 1 - length path ≡ 0 = omega (arith, long) in rw none refl;
+}

@@ -1,12 +1,13 @@
 -- A value that more than half of a list are is its majority. Assumes nothing.
 use Rattle.std.proofs.Common.{◌≡◌, ℕ, ◌+◌, ◌-◌, ◌*◌, ◌<◌, ◌≤◌, Bool, true, false, ◌==◌, nat_lt, List, [], ◌∷◌, length, Some, None, unwrap_or, inl, inr, sym, refl, ap, ◌∙◌, arith}
 use Rattle.std.specs.List.{find}
-use Rattle.std.proofs.lemmas.Bool.{cases_Bool, cases_eq, eq-eqb, ne_eqb, ltb-true, false≢true}
+use Rattle.std.proofs.lemmas.Bool.{cases_Bool, cases_eq, eq-eqb, ne_eqb, lt-ltb, le-ltb, ltb-true, false≢true}
 use Rattle.std.proofs.lemmas.Bool.Decides.{nat_tests}
 use Rattle.std.specs.List.{count_by}
 use Rattle.midpoint.specs.Order.{count}
 use Rattle.midpoint.proofs.Sorting.{count_is}
 use Rattle.agreement.specs.Majority.{times, is_most, majority}
+use Rattle.agreement.specs.Theorems.{Most}
 
 -- two values share a list
 two_share : (u v : ℕ) (values : List ℕ) → (u ≡ v → ⊥) → times u values + times v values ≤ length values
@@ -78,3 +79,9 @@ majority_not_found values value only not =
 -- more are a value than are not, or more than half are
 pub counted : (values : List ℕ) (value n : ℕ) → n ≡ count_by (λ one. one == value) values → nat_lt (length values - n) n ≡ is_most values value
 counted values value n is = let same = count_is (λ one. one == value) values in grind (arith, nat_tests)
+
+pub is_majority : Most
+is_majority values = record {
+  most = λ value more. most values value (lt-ltb (length values) (2 * times value values) more);
+  none = λ few. none values (λ value. le-ltb (length values) (2 * times value values) (few value));
+}

@@ -53,10 +53,9 @@ same values left value equal is =
     }
 
 -- and one that is struck out with another value
-pub struck : (values : List ℕ) (left : Left) (value : ℕ) → (value ≡ left.value → ⊥) → (left.times ≡ 0 → ⊥) → IsLeftOf values left →
+pub struck : (values : List ℕ) (left : Left) (value : ℕ) → 0 < left.times → (value ≡ left.value → ⊥) → IsLeftOf values left →
     IsLeftOf (push values value) (record { value = left.value; times = left.times - 1 })
-struck values left value differs not_none is =
-    let some : 0 < left.times = grind (arith, not_none) in
+struck values left value some differs is =
     let long = length-push values value in record {
       no_more = omega (arith, long, is.no_more);
       this = omega (arith, long, times-other left.value value values differs, is.this, some);

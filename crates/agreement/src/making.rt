@@ -17,6 +17,7 @@ use relay::{fits, known_path};
 /// The results of a cycle, one for each node in order, from the table that a node holds when it is over: what it makes of the
 /// path of that node alone. A table of another length than the cluster needs is refused, 10 at the length needed; then memory
 /// with another number of places than the cluster has nodes, 10 at that number; the memory is then left as it was.
+#[tactic(auto, using(crate::proofs::Made::all_results))]
 pub fn results(cluster: &Cluster, table: &[u32], memory: &mut [u32]) -> Result<(), Refusal>
     ensures answer { ByRows (unfit cluster.now table.now memory.old) (λ e. e) (λ _. Unit {0}) result }
     ensures memory { MatchResult result (λ _. memory.new ≡ results_of cluster.now table.now) (λ _. memory.new ≡ memory.old) }
@@ -49,6 +50,7 @@ pub fn made_of(cluster: &Cluster, table: &[u32], path: &[u8]) -> Result<u32, rel
 // What is made of a path, where so many tellings are left: what the table holds for it if none is; else the majority of what is
 // made of the paths with one more node in front.
 #[cycle(made_of_path)]
+#[tactic(auto, using(crate::proofs::Made::made_last, crate::proofs::Made::made_of_list))]
 fn made_of_path(table: &[u32], path: Path, left: u64) -> u32
     requires fits { length table.now ≡ path.cluster_nodes ^ (path.length + left) }
     requires short { path.length + left ≤ 4 }

@@ -44,7 +44,7 @@ struct Left {
 
 impl Left {
     // What is left of these values and one more.
-    #[tactic(auto, using(crate::proofs::Pairs::same, crate::proofs::Pairs::first, crate::proofs::Pairs::struck))]
+    #[tactic(auto, using(crate::proofs::Pairs::same, crate::proofs::Pairs::first))]
     fn with(self, value: u32) -> Left
         requires { self.times < 18446744073709551615 }
         ensures { (values : List ℕ) → IsLeftOf values self → IsLeftOf (push values value) result }

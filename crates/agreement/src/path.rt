@@ -53,6 +53,7 @@ impl Path {
     }
 
     // The path with one more node in front.
+    #[tactic(auto, using(crate::proofs::Fronts::index_fits, crate::proofs::Fronts::row_more))]
     pub(crate) fn with(self, node: usize) -> Path
         requires of_cluster { node < self.cluster_nodes }
         requires short { self.length < 4 }

@@ -1,1 +1,43 @@
-//! The theorems of this crate.
+//! The theorems of this crate. Each function's contract is one statement of `specs/Theorems.antt`, so that the
+//! crate is not proved without it; what the function does is nothing.
+ghost use Rattle.agreement.specs.Theorems.{Most, ResultsAreMade, Agreed, AgreedByTables, AnythingCanBeTold, CycleCanBeRun, ThreeAreTooFew, WorkedCases};
+
+/// The majority is the value that more than half have, and 0 if there is none.
+pub fn majority_is_the_most()
+    ensures { Most }
+{}
+
+/// The result for a node is what is made of the path of this node alone.
+pub fn results_are_made_of_paths()
+    ensures { ResultsAreMade }
+{}
+
+/// Whatever the faulty nodes tell, good nodes come to the same, and for good nodes to what these gave.
+pub fn good_nodes_agree()
+    ensures { Agreed }
+{}
+
+/// And so they do by their tables, as a cycle is over.
+pub fn results_agree()
+    ensures { AgreedByTables }
+{}
+
+/// What is asked of good nodes leaves the faulty ones free to tell anything.
+pub fn anything_can_be_told()
+    ensures { AnythingCanBeTold }
+{}
+
+/// And so does what is asked of the tables of a cycle.
+pub fn cycle_can_be_run()
+    ensures { CycleCanBeRun }
+{}
+
+/// With no more than three nodes for a fault good nodes do not always agree.
+pub fn three_nodes_are_too_few()
+    ensures { ThreeAreTooFew }
+{}
+
+/// The cases worked out by hand.
+pub fn worked_cases_hold()
+    ensures { WorkedCases }
+{}

@@ -11,7 +11,7 @@ use Rattle.midpoint.proofs.Ranks.{below_place, above_place, holds}
 use Rattle.clock.specs.Rounds.{FewBad}
 use Rattle.clock.specs.declared.limits.Cluster.{Cluster}
 
-count_map : (test : ℕ → Bool) (f : ℕ → ℕ) (xs : List ℕ) → count test (map f xs) ≡ count (λ x. test (f x)) xs
+pub count_map : (test : ℕ → Bool) (f : ℕ → ℕ) (xs : List ℕ) → count test (map f xs) ≡ count (λ x. test (f x)) xs
 unfolding count
 count_map test f [] = refl
 count_map test f (x ∷ xs) = omega (arith, count_map test f xs)

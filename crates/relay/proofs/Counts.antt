@@ -52,7 +52,7 @@ neither : (a b : Bool) → not (a || b) ≡ (not a && not b)
 neither true b = refl
 neither false b = refl
 
-free_of : (n : ℕ) (row : List ℕ) → is_path n row ≡ true → count_below (λ node. not (stands_in node row)) n + length row ≡ n
+pub free_of : (n : ℕ) (row : List ℕ) → is_path n row ≡ true → count_below (λ node. not (stands_in node row)) n + length row ≡ n
 free_of n [] path = omega (arith, count_all n)
 free_of n (x ∷ row) path =
     let p = path_parts n x row path in
@@ -61,12 +61,12 @@ free_of n (x ∷ row) path =
     rw p.within at (without_one (λ node. not (stands_in node row)) x n (ap not p.free)) in
     omega (arith, apart, fewer, free_of n row p.behind)
 
--- how many rows of a list pass, where each row is given by a number
-length_cond : (b : Bool) (row : List ℕ) → length (cond b (row ∷ []) []) ≡ cond b 1 0
+-- how many of a list pass, where each is given by a number
+length_cond : {X : Type 0} (b : Bool) (row : X) → length (cond b (row ∷ []) []) ≡ cond b 1 0
 length_cond true row = refl
 length_cond false row = refl
 
-counted : (p : List ℕ → Bool) (row : ℕ → List ℕ) (n : ℕ) → length (filter p (map row (range_with_len 0 n))) ≡ count_below (λ k. p (row k)) n
+pub counted : {X : Type 0} (p : X → Bool) (row : ℕ → X) (n : ℕ) → length (filter p (map row (range_with_len 0 n))) ≡ count_below (λ k. p (row k)) n
 counted p row zero = refl
 counted p row (suc n) =
     let one : suc n ≡ n + 1 = omega arith in

@@ -1,5 +1,5 @@
 mod Sets
-mod Lists
+pub mod Lists
 pub mod Turns
 pub mod Numbers
 pub mod Places
@@ -7,5 +7,5 @@ pub mod Told
 mod Left
 pub mod Entering
 mod Order
-mod Counts
+pub mod Counts
 pub mod Relaying

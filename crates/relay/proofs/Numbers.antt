@@ -66,7 +66,7 @@ range_from : {X : Type 0} (f : ℕ → X) (a b n : ℕ) → map f (range_with_le
 range_from f a b zero = refl
 range_from f a b (suc n) = let further : a + b + 1 ≡ a + (b + 1) = omega arith in rw further (ap (λ rest. f (a + b) ∷ rest) (range_from f a (b + 1) n))
 
-range_agrees : {X : Type 0} (d : X) (f g : ℕ → X) (n : ℕ) → ((k : ℕ) → k < n → f k ≡ g k) → map f (range_with_len 0 n) ≡ map g (range_with_len 0 n)
+pub range_agrees : {X : Type 0} (d : X) (f g : ℕ → X) (n : ℕ) → ((k : ℕ) → k < n → f k ≡ g k) → map f (range_with_len 0 n) ≡ map g (range_with_len 0 n)
 range_agrees d f g n same =
     fill_by_all g (map f (range_with_len 0 n)) n d (length-map-range_with_len f 0 n) (λ k h. get_or-map-range_with_len f 0 n k k d h (omega arith) ∙ same k h)
 

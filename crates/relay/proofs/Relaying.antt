@@ -15,7 +15,7 @@ use Rattle.frame.specs.declared.reading.Reception.TheVariants.{Whole, TurnedAway
 use Rattle.frame.proofs.Payloads.{length-values_in}
 use Rattle.frame.proofs.Frames.{received_whole}
 use Rattle.relay.specs.Paths.{AllBelow, stands_in, is_path, is_path_without, index_of, rows}
-use Rattle.relay.specs.Tables.{held_for, with_entry}
+use Rattle.relay.specs.Tables.{table_length_of, held_for, with_entry}
 use Rattle.relay.specs.Telling.{paths_of, IsTold, told_from, heard_in, Entered}
 use Rattle.relay.specs.Theorems.{IsPathBehind, turn_in, EnteredAll, RoundIsWhole, PathsAreInOrder, ValuesAreAsMany, Relays, HoldsWhatItTells, SilenceIsZero, OthersStay, FirstIsOwn, TablesAreWithin}
 use Rattle.relay.proofs.Lists.{list_by_index}
@@ -58,7 +58,7 @@ only t path in_list =
       path_without_sender = All-contains (λ row. told row ≡ true) (paths_of t) path (filter_passes told all) in_list;
     }
 
-shorter_path : (t : Turn) (path : List ℕ) → IsPathBehind t path → IsTold t path
+pub shorter_path : (t : Turn) (path : List ℕ) → IsPathBehind t path → IsTold t path
 shorter_path t path longer =
     let n = t.cluster.nodes in
     let p = path_parts n t.sender path longer.with_sender in
@@ -93,13 +93,16 @@ as_many_values t known =
           ap (λ n. map (slice_index (values_in (payload_of frame))) (range_with_len 0 n)) (sym many) ∙ sym (list_by_index (values_in (payload_of frame)));
     }
 
--- what is held for the node in front of a path
+-- what gives the same list for the paths that are told of gives the same for each of them
+pub same_for : (t : Turn) (f g : List ℕ → ℕ) → map f (paths_of t) ≡ map g (paths_of t) → (path : List ℕ) → IsTold t path → f path ≡ g path
+same_for t f g same path told =
+    let (k, within, is) = each t path told in
+    ap f (sym is) ∙ sym (get_or-map f (paths_of t) k path 0 within) ∙ ap (λ values. get_or values k 0) same ∙ get_or-map g (paths_of t) k path 0 within ∙ ap g is
+
+-- so what is held for the node in front of a path
 held_of : (t : Turn) (f : List ℕ → ℕ) (old new : List ℕ) → Entered t (map f (paths_of t)) old new → (path : List ℕ) → IsTold t path →
     held_for t.cluster new (t.sender ∷ path) ≡ f path
-held_of t f old new entered path told =
-    let (k, within, is) = each t path told in
-    let held : List ℕ → ℕ = λ path. held_for t.cluster new (t.sender ∷ path) in
-    ap held (sym is) ∙ sym (get_or-map held (paths_of t) k path 0 within) ∙ ap (λ values. get_or values k 0) entered.told ∙ get_or-map f (paths_of t) k path 0 within ∙ ap f is
+held_of t f old new entered path told = same_for t (λ path. held_for t.cluster new (t.sender ∷ path)) f entered.told path told
 
 pub silence_is_zero : SilenceIsZero
 silence_is_zero t old new entered path told = held_of t (λ path. 0) old new entered path told
@@ -164,11 +167,8 @@ one_behind c round values senders new other one two all (first ∷ behind) long 
     let t = turn_in c round first in
     let within = All-head (λ node. node < c.nodes) first behind (path_below c.nodes (first ∷ behind) path) in
     let told = shorter_path t behind (record { as_long = omega (arith, long); with_sender = path }) in
-    let (k, reached, is) = each t behind told in
     let value : List ℕ → List ℕ → ℕ = λ table path. held_for c table (first ∷ path) in
-    let at : (table : List ℕ) → held_for c table (first ∷ behind) ≡ get_or (map (value table) (paths_of t)) k 0 =
-    λ table. ap (value table) (sym is) ∙ sym (get_or-map (value table) (paths_of t) k behind 0 reached) in
-    at new ∙ ap (λ list. get_or list k 0) (one first (all first within) ∙ sym (two first (all first within))) ∙ sym (at other)
+    same_for t (value new) (value other) (one first (all first within) ∙ sym (two first (all first within))) behind told
 
 pub round_is_whole : RoundIsWhole
 round_is_whole c round values senders old new path entered = record {
@@ -188,10 +188,13 @@ tables_within c = record {
   constant = refl;
 }
 
+-- the value that is put into a table as a cycle begins
+pub own_value : (c : Cluster) (value : ℕ) (table : List ℕ) → length table ≡ table_length_of c → held_for c (with_entry c [] value table) [] ≡ value
+own_value c value table long = get_or-set_same table 0 value 0 (omega (arith, long, (tables_within c).least))
+
 pub first_is_own : FirstIsOwn
 first_is_own t value table first long =
-    let some : 0 < length table = omega (arith, long, (tables_within t.cluster).least) in
-    let own : held_for t.cluster (with_entry t.cluster [] value table) [] ≡ value = get_or-set_same table 0 value 0 some in record {
+    let own = own_value t.cluster value table long in record {
       told = rw first (ap (λ told. told ∷ []) own);
       held = λ old new entered.
           holds_what_it_tells t (with_entry t.cluster [] value table) old new entered [] (record { as_long = sym first; path_without_sender = refl }) ∙ own;
