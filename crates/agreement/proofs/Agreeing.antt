@@ -1,19 +1,16 @@
 -- Whatever faulty nodes tell, good nodes come to the same. Assumes nothing.
-use Rattle.std.proofs.Common.{◌≡◌, ℕ, zero, suc, ◌+◌, ◌*◌, ◌≤◌, ◌<◌, Bool, true, false, not, ◌&&◌, ◌==◌, nat_lt, List, [], ◌∷◌, length, inl, inr, sym, refl, ap, ◌∙◌, arith}
-use Rattle.std.proofs.lemmas.Bool.{cases_Bool, and_from, lt-ltb, ltb-true, not-true, or_from, ne_eqb, false≢true}
+use Rattle.std.proofs.Common.{◌≡◌, ℕ, zero, suc, ◌+◌, ◌*◌, ◌≤◌, ◌<◌, Bool, true, false, not, ◌==◌, List, [], ◌∷◌, length, inl, inr, sym, refl, ap, ◌∙◌, arith}
+use Rattle.std.proofs.lemmas.Bool.{cases_Bool, ltb-true, not-true, or_from, ne_eqb, false≢true}
+use Rattle.clock.specs.Rounds.{Good, faulty}
 use Rattle.relay.specs.Paths.{stands_in, is_path}
-use Rattle.relay.proofs.Told.{path_parts}
+use Rattle.relay.proofs.Told.{path_parts, longer}
 use Rattle.agreement.specs.Majority.{majority}
-use Rattle.agreement.specs.Results.{made_of}
-use Rattle.agreement.specs.Tellings.{Good, faulty, Tells}
+use Rattle.agreement.specs.Results.{made_of_path}
+use Rattle.agreement.specs.Holdings.{Tells}
 use Rattle.agreement.specs.Theorems.{Agreed}
 use Rattle.agreement.proofs.Others.{alike, good_decide, AllFaulty, faulty_path}
 
--- a path with one more node in front
-pub longer : (n node : ℕ) (path : List ℕ) → node < n → stands_in node path ≡ false → is_path n path ≡ true → is_path n (node ∷ path) ≡ true
-longer n node path within free is =
-    and_from (nat_lt node n && not (stands_in node path)) (is_path n path) (and_from (nat_lt node n) (not (stands_in node path)) (lt-ltb node n within) (ap not free)) is
-
+-- no good node is on a path with a faulty one in front
 all_faulty_more : (good : ℕ → Bool) (r : ℕ) (path : List ℕ) → good r ≡ false → AllFaulty good path → AllFaulty good (r ∷ path)
 all_faulty_more good r path is_not all node is_good =
     or_from (r == node) (stands_in node path) (ne_eqb r node (λ same. false≢true (sym is_not ∙ ap good same ∙ is_good))) (all node is_good)
@@ -22,11 +19,11 @@ module _ (n faults : ℕ) (good : ℕ → Bool) (held : ℕ → List ℕ → ℕ
   -- what a good node makes of a path with a good node in front is what this one holds for the path, however many tellings are left
   validity :
       (left p q : ℕ) (path : List ℕ) → Good n good p → Good n good q → is_path n (q ∷ path) ≡ true → length path + left ≡ faults →
-      made_of n left (held p) (q ∷ path) ≡ held q path
-  unfolding made_of
+      made_of_path n left (held p) (q ∷ path) ≡ held q path
+  unfolding made_of_path
   validity zero p q path of_p of_q is long = tell p q path of_p of_q is (omega (arith, long))
   validity (suc left) p q path of_p of_q is long =
-      good_decide n (q ∷ path) (λ r. made_of n left (held p) (r ∷ q ∷ path)) good (held q path) is (omega (arith, long, enough, few))
+      good_decide n (q ∷ path) (λ r. made_of_path n left (held p) (r ∷ q ∷ path)) good (held q path) is (omega (arith, long, enough, few))
       (λ r within free is_good.
       validity left p r (q ∷ path) of_p (within, is_good) (longer n r (q ∷ path) within free is) (omega (arith, long))
       ∙ tell r q path (within, is_good) of_q is (omega (arith, long)))
@@ -34,8 +31,8 @@ module _ (n faults : ℕ) (good : ℕ → Bool) (held : ℕ → List ℕ → ℕ
   -- and two good nodes make the same of any path behind whose first node all are faulty
   agreement :
       (left p q r : ℕ) (path : List ℕ) → Good n good p → Good n good q → is_path n (r ∷ path) ≡ true → AllFaulty good path → length path + left ≡ faults →
-      made_of n left (held p) (r ∷ path) ≡ made_of n left (held q) (r ∷ path)
-  unfolding made_of
+      made_of_path n left (held p) (r ∷ path) ≡ made_of_path n left (held q) (r ∷ path)
+  unfolding made_of_path
   agreement zero p q r path of_p of_q is all long =
       elim (cases_Bool (good r)) [
         | inl is_good ↦
@@ -49,7 +46,7 @@ module _ (n faults : ℕ) (good : ℕ → Bool) (held : ℕ → List ℕ → ℕ
             let of_r : Good n good r = (ltb-true r n (path_parts n r path is).within, is_good) in
             validity (suc left) p r path of_p of_r is long ∙ sym (validity (suc left) q r path of_q of_r is long)
         | inr is_not ↦
-            ap majority (alike (λ node. not (stands_in node (r ∷ path))) (λ k. made_of n left (held p) (k ∷ r ∷ path)) (λ k. made_of n left (held q) (k ∷ r ∷ path)) 0 n
+            ap majority (alike (λ node. not (stands_in node (r ∷ path))) (λ k. made_of_path n left (held p) (k ∷ r ∷ path)) (λ k. made_of_path n left (held q) (k ∷ r ∷ path)) 0 n
             (λ k within off.
             agreement left p q k (r ∷ path) of_p of_q (longer n k (r ∷ path) (omega (arith, within)) (not-true (stands_in k (r ∷ path)) off) is)
             (all_faulty_more good r path is_not all) (omega (arith, long))))

@@ -1,9 +1,9 @@
 -- Tables of a cycle, as what good nodes hold for paths. Assumes nothing.
-use Rattle.std.proofs.Common.{◌≡◌, ℕ, zero, suc, ◌+◌, ◌*◌, ◌/◌, ◌%◌, ◌≤◌, ◌<◌, Bool, true, false, not, ◌&&◌, ◌==◌, nat_lt, List, [], ◌∷◌, length, map, inl, inr, sym, refl, ap, ◌∙◌, arith}
+use Rattle.std.proofs.Common.{◌≡◌, ℕ, zero, suc, ◌+◌, ◌*◌, ◌/◌, ◌%◌, ◌≤◌, ◌<◌, Bool, true, false, ◌==◌, List, [], ◌∷◌, length, map, inl, inr, sym, refl, ap, ◌∙◌, arith}
 use Rattle.std.specs.List.{range_with_len}
 use Rattle.std.proofs.Math.Nat.{mod-add-div'}
 use Rattle.std.proofs.lemmas.Nat.{mod-mul-add}
-use Rattle.std.proofs.lemmas.Bool.{cases_eq, and_from, or_from, or_right, or_left, lt-ltb, eq-eqb, ne_eqb}
+use Rattle.std.proofs.lemmas.Bool.{cases_eq, or_from, or_right, or_left, eq-eqb, ne_eqb}
 use Rattle.std.proofs.lemmas.List.FromFn.{get_or-map-range_with_len}
 use Rattle.clock.specs.Rounds.{GoodNode}
 use Rattle.clock.specs.declared.limits.Cluster.{Cluster}
@@ -13,10 +13,11 @@ use Rattle.relay.specs.Tables.{held_for}
 use Rattle.relay.specs.Telling.{paths_of, told_from}
 use Rattle.relay.specs.Theorems.{turn_in}
 use Rattle.relay.proofs.Numbers.{range_agrees}
+use Rattle.relay.proofs.Told.{longer}
 use Rattle.relay.proofs.Relaying.{same_for, shorter_path, own_value, round_is_whole}
 use Rattle.agreement.specs.Majority.{majority}
-use Rattle.agreement.specs.Results.{nodes_off, made_of, result_for}
-use Rattle.agreement.specs.Tellings.{Tells}
+use Rattle.agreement.specs.Results.{nodes_off, made_of_path, result_for}
+use Rattle.agreement.specs.Holdings.{Tells}
 use Rattle.agreement.specs.Cycles.{Cycle}
 use Rattle.agreement.specs.Theorems.{AgreedByTables}
 use Rattle.agreement.proofs.Agreeing.{agreed}
@@ -30,9 +31,7 @@ stands_past x a (suc m) h =
 pub in_order : (n a m : ℕ) → a + m ≤ n → is_path n (range_with_len a m) ≡ true
 in_order n a zero h = refl
 in_order n a (suc m) h =
-    let rest = range_with_len (a + 1) m in
-    and_from (nat_lt a n && not (stands_in a rest)) (is_path n rest)
-    (and_from (nat_lt a n) (not (stands_in a rest)) (lt-ltb a n (omega (arith, h))) (ap not (stands_past a (a + 1) m (omega arith)))) (in_order n (a + 1) m (omega (arith, h)))
+    longer n a (range_with_len (a + 1) m) (omega (arith, h)) (stands_past a (a + 1) m (omega arith)) (in_order n (a + 1) m (omega (arith, h)))
 
 pub stands_among : (x a m : ℕ) → a ≤ x → x < a + m → stands_in x (range_with_len a m) ≡ true
 stands_among x a zero h l = absurd (omega (arith, h, l))
@@ -59,9 +58,9 @@ module _ (c : Cluster) (good : ℕ → Bool) (value : ℕ → ℕ) (first : ℕ)
       let k = length path in
       let t = turn_in c (first + k) q in
       let round = cycle.rounds k p short of_p in
-      let whole = round_is_whole c (first + k) round.values (range_with_len 0 c.nodes) round.old (tables (suc k) p) (in_order c.nodes 0 c.nodes (omega arith)) round.each in
+      let whole = round_is_whole c (first + k) round.values round.senders round.old (tables (suc k) p) round.once round.each in
       let entered : map (λ path. held_for c (tables (suc k) p) (q ∷ path)) (paths_of t) ≡ told_from t (tables k q) =
-      whole.told q (stands_among q 0 c.nodes (omega arith) (omega (arith, of_q.0))) ∙ round.told q of_q in
+      whole.told q (round.all q of_q.0) ∙ round.told q of_q in
       same_for t (λ path. held_for c (tables (suc k) p) (q ∷ path)) (held_for c (tables k q)) entered path
       (shorter_path t path (record { as_long = sym (place_of_round c first k cycle.is_first short); with_sender = is }))
 
@@ -72,8 +71,8 @@ module _ (c : Cluster) (good : ℕ → Bool) (value : ℕ → ℕ) (first : ℕ)
 
 -- what is made of a path depends on what is held for paths of a cycle's rounds only
 leaves_only : (n left : ℕ) (held other : List ℕ → ℕ) (path : List ℕ) → ((row : List ℕ) → length row ≡ left + length path → held row ≡ other row) →
-    made_of n left held path ≡ made_of n left other path
-unfolding made_of
+    made_of_path n left held path ≡ made_of_path n left other path
+unfolding made_of_path
 leaves_only n zero held other path same = same path (omega arith)
 leaves_only n (suc left) held other path same =
     (λ i. majority (map (λ node. leaves_only n left held other (node ∷ path) (λ row long. same row (omega (arith, long))) i) (nodes_off n path)))

@@ -1,20 +1,17 @@
 -- A node in front of a path. Assumes nothing.
 use Rattle.std.proofs.Common.{◌≡◌, ℕ, suc, ◌+◌, ◌*◌, ◌^◌, ◌<◌, ◌≤◌, ◌||◌, ◌==◌, ◌∷◌, sym, refl, ap, ◌∙◌, arith}
-use Rattle.std.proofs.Math.Nat.{pow-suc}
 use Rattle.std.proofs.lemmas.Bool.{lt-ltb}
-use Rattle.std.proofs.lemmas.Nat.{mul-add-lt}
 use Rattle.relay.specs.Nodes.{among, added}
 use Rattle.relay.specs.Paths.{stands_in, row_at}
 use Rattle.relay.specs.declared.nodes.NodeSet.{NodeSet}
-use Rattle.relay.proofs.Numbers.{power_small, row_at_more}
+use Rattle.relay.proofs.Numbers.{power_small, index_more, row_at_more}
 
 -- its index is one of the rows with one node more
-pub index_more : (n count index node : ℕ) → node < n → index < n ^ count → index * n + node < n ^ (count + 1)
-index_more n count index node known within =
-    let one : count + 1 ≡ suc count = omega arith in rw (one, pow-suc n count) (omega (arith, mul-add-lt index n node (n ^ count) within known))
+pub front_within : (n count index node : ℕ) → node < n → index < n ^ count → index * n + node < n ^ (count + 1)
+front_within n count index node known within = let one : count + 1 ≡ suc count = omega arith in rw one (index_more n count index node known within)
 
-pub index_fits : (n count index node : ℕ) → n ≤ 16 → count < 4 → node < n → index < n ^ count → index * n + node < 65536
-index_fits n count index node few short known within = omega (arith, index_more n count index node known within, power_small n (count + 1) few (omega (arith, short)))
+pub front_fits : (n count index node : ℕ) → n ≤ 16 → count < 4 → node < n → index < n ^ count → index * n + node < 65536
+front_fits n count index node few short known within = omega (arith, front_within n count index node known within, power_small n (count + 1) few (omega (arith, short)))
 
 pub row_more : (n count index node : ℕ) → node < n → row_at n (count + 1) (index * n + node) ≡ node ∷ row_at n count index
 row_more n count index node known = let one : count + 1 ≡ suc count = omega arith in ap (λ k. row_at n k (index * n + node)) one ∙ row_at_more n count index node known

@@ -9,7 +9,7 @@ use Rattle.relay.specs.Paths.{stands_in, is_path}
 use Rattle.relay.proofs.Counts.{counted, free_of}
 use Rattle.agreement.specs.Majority.{times, majority}
 use Rattle.agreement.specs.Results.{nodes_off}
-use Rattle.agreement.specs.Tellings.{faulty}
+use Rattle.clock.specs.Rounds.{faulty}
 use Rattle.agreement.proofs.Majorities.{most}
 
 -- the nodes of a path and the others are all

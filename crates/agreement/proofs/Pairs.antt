@@ -2,7 +2,7 @@
 use Rattle.std.proofs.Common.{◌≡◌, ℕ, ◌+◌, ◌-◌, ◌*◌, ◌≤◌, ◌<◌, cond, ◌==◌, List, [], ◌∷◌, length, inl, inr, sym, refl, ◌∙◌, arith}
 use Rattle.std.specs.List.{push}
 use Rattle.std.proofs.lemmas.Bool.{cases_eq, eq-eqb, ne_eqb}
-use Rattle.std.proofs.lemmas.List.{length-append}
+use Rattle.std.proofs.lemmas.List.{length_push}
 use Rattle.midpoint.specs.Order.{count}
 use Rattle.agreement.specs.Majority.{times}
 use Rattle.agreement.specs.Pairs.{IsLeftOf}
@@ -17,10 +17,10 @@ times-same : (value : ℕ) (values : List ℕ) → times value (push values valu
 times-same value values = let more = times-push value value values in rw (eq-eqb value value refl) at more
 
 times-other : (value x : ℕ) (values : List ℕ) → (x ≡ value → ⊥) → times value (push values x) ≡ times value values
-times-other value x values differs = let more = times-push value x values in let more : times value (push values x) ≡ times value values + 0 = rw (ne_eqb x value differs) at more in omega (arith, more)
-
-length-push : (values : List ℕ) (x : ℕ) → length (push values x) ≡ length values + 1
-length-push values x = length-append values (x ∷ [])
+times-other value x values differs =
+    let more = times-push value x values in
+    let none : times value (push values x) ≡ times value values + 0 = rw (ne_eqb x value differs) at more in
+    omega (arith, none)
 
 -- no value is more than half where none is left over
 at_most_half : (values : List ℕ) (left : Left) → left.times ≡ 0 → IsLeftOf values left → (value : ℕ) → 2 * times value values ≤ length values
@@ -34,7 +34,7 @@ at_most_half values left none is value =
 pub first : (values : List ℕ) (left : Left) (value : ℕ) → left.times ≡ 0 → IsLeftOf values left → IsLeftOf (push values value) (record { value = value; times = 1 })
 first values left value none is =
     let half = at_most_half values left none is in
-    let long = length-push values value in record {
+    let long = length_push values value in record {
       no_more = omega (arith, long);
       this = omega (arith, long, times-same value values, half value);
       another = λ other differs. omega (arith, long, times-other other value values (λ same. differs (sym same)), half other);
@@ -44,7 +44,7 @@ first values left value none is =
 pub same : (values : List ℕ) (left : Left) (value : ℕ) → value ≡ left.value → IsLeftOf values left →
     IsLeftOf (push values value) (record { value = value; times = left.times + 1 })
 same values left value equal is =
-    let long = length-push values value in
+    let long = length_push values value in
     let this : 2 * times value values ≤ length values + left.times = rw equal is.this in record {
       no_more = omega (arith, long, is.no_more);
       this = omega (arith, long, times-same value values, this);
@@ -56,7 +56,7 @@ same values left value equal is =
 pub struck : (values : List ℕ) (left : Left) (value : ℕ) → 0 < left.times → (value ≡ left.value → ⊥) → IsLeftOf values left →
     IsLeftOf (push values value) (record { value = left.value; times = left.times - 1 })
 struck values left value some differs is =
-    let long = length-push values value in record {
+    let long = length_push values value in record {
       no_more = omega (arith, long, is.no_more);
       this = omega (arith, long, times-other left.value value values differs, is.this, some);
       another = λ other apart.

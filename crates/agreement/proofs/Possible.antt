@@ -10,8 +10,8 @@ use Rattle.frame.specs.declared.turn.Turn.{Turn}
 use Rattle.relay.specs.Tables.{table_length_of, held_for, with_entry}
 use Rattle.relay.specs.Telling.{paths_of, IsTold, told_from, Entered}
 use Rattle.relay.specs.Theorems.{turn_in, EnteredAll}
-use Rattle.relay.proofs.Entering.{entry, EnteredTo, entered_none, entered_more, entered_all}
-use Rattle.relay.specs.Paths.{AllBelow, index_of}
+use Rattle.relay.proofs.Entering.{entry, EnteredTo, entered_none, entered_more, entered_all, told_fits}
+use Rattle.relay.specs.Paths.{AllBelow}
 use Rattle.relay.proofs.Lists.{list_by_index}
 use Rattle.relay.proofs.Numbers.{range_below}
 use Rattle.std.proofs.lemmas.List.Elements.{All-head, All-tail}
@@ -22,14 +22,14 @@ use Rattle.agreement.specs.Theorems.{CycleCanBeRun, Small}
 use Rattle.agreement.proofs.Cycles.{in_order, stands_among}
 
 -- numbers below 2^32: in a list that a function gives, and in one with another entry
-map_small : {X : Type 0} (f : X → ℕ) (xs : List X) (d : X) → ((x : X) → f x < 4294967296) → Small (map f xs)
+map_small : {X : Type 0} (f : X → ℕ) (xs : List X) (d : X) → ((x : X) → f x < 2 ^ 32) → Small (map f xs)
 map_small f xs d small i =
     elim (cases_lt i (length xs)) [
       | inl h ↦ rw (get_or-map f xs i d 0 h) (small (get_or xs i d))
       | inr h ↦ rw (get_or_past (map f xs) i 0 (omega (arith, h, length-map xs f))) (omega arith)
     ]
 
-set_small : (xs : List ℕ) (at v : ℕ) → v < 4294967296 → Small xs → Small (slice_set xs at v)
+set_small : (xs : List ℕ) (at v : ℕ) → v < 2 ^ 32 → Small xs → Small (slice_set xs at v)
 set_small xs at v small_v small i =
     elim (cases_eq i at) [
       | inl same ↦
@@ -129,14 +129,14 @@ module _ (c : Cluster) (good : ℕ → Bool) (value : ℕ → ℕ) (first : ℕ)
   tables_long zero p = length-set zeros 0 (value p) ∙ zeros_long
   tables_long (suc k) p = (put k p).long
 
-  tables_small : ((p : ℕ) → value p < 4294967296) → ((p q : ℕ) (path : List ℕ) → lies p q path < 4294967296) → (k p : ℕ) → Small (tables k p)
+  tables_small : ((p : ℕ) → value p < 2 ^ 32) → ((p q : ℕ) (path : List ℕ) → lies p q path < 2 ^ 32) → (k p : ℕ) → Small (tables k p)
   tables_small small_value small_lies zero p = set_small zeros 0 (value p) (small_value p) (map_small (λ index. 0) (range_with_len 0 (table_length_of c)) 0 (λ index. omega arith))
   tables_small small_value small_lies (suc k) p =
       each_small c (first + k) (told_by k (tables k) p) (range_with_len 0 c.nodes) zeros
       (λ q.
       let t = turn_in c (first + k) q in
       elim (cases_Bool (good q)) [
-        | inl is_good ↦ rw is_good (map_small (held_for c (tables k q)) (paths_of t) [] (λ path. tables_small small_value small_lies k q (index_of c.nodes path)))
+        | inl is_good ↦ rw is_good (λ i. told_fits t (tables k q) i (tables_small small_value small_lies k q))
         | inr is_not ↦ rw is_not (map_small (lies p q) (paths_of t) [] (small_lies p q))
       ])
       (map_small (λ index. 0) (range_with_len 0 (table_length_of c)) 0 (λ index. omega arith))
@@ -148,6 +148,9 @@ module _ (c : Cluster) (good : ℕ → Bool) (value : ℕ → ℕ) (first : ℕ)
     rounds = λ k p h of_p. record {
       old = zeros;
       values = told_by k (tables k) p;
+      senders = range_with_len 0 c.nodes;
+      once = in_order c.nodes 0 c.nodes (omega arith);
+      all = λ node h. stands_among node 0 c.nodes (omega arith) (omega (arith, h));
       each = (put k p).entered;
       told = λ q of_q. rw of_q.1 refl;
     };

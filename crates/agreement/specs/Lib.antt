@@ -2,6 +2,6 @@ pub mod Majority
 pub mod Pairs
 pub mod Results
 pub mod Rows
-pub mod Tellings
+pub mod Holdings
 pub mod Cycles
 pub mod Theorems

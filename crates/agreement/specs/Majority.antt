@@ -7,10 +7,10 @@ use Rattle.midpoint.specs.Order.{count}
 abbrev pub times : ℕ → List ℕ → ℕ
 times value values = count (λ one. one == value) values
 
--- whether more than half of a list are this value
+-- whether more than half of a list have this value
 abbrev pub is_most : List ℕ → ℕ → Bool
 is_most values value = nat_lt (length values) (2 * times value values)
 
--- the value that more than half of a list are, or 0 if there is none
+-- the value that more than half of a list have, or 0 if there is none
 unfoldable pub majority : List ℕ → ℕ
 majority values = unwrap_or (find (is_most values) values) 0

@@ -17,18 +17,18 @@ nodes_off n path = filter (λ node. not (stands_in node path)) (range_with_len 0
 
 -- What a node makes of a path, where so many tellings are left: if none is left, what it holds for it. Else the majority of what it makes of the paths
 -- with one more node in front, for each node that is not on it.
-unfoldable pub made_of : ℕ → ℕ → (List ℕ → ℕ) → List ℕ → ℕ
-made_of n zero held path = held path
-made_of n (suc left) held path = majority (map (λ node. made_of n left held (node ∷ path)) (nodes_off n path))
+unfoldable pub made_of_path : ℕ → ℕ → (List ℕ → ℕ) → List ℕ → ℕ
+made_of_path n zero held path = held path
+made_of_path n (suc left) held path = majority (map (λ node. made_of_path n left held (node ∷ path)) (nodes_off n path))
 
 -- what it makes of a path by its table when the cycle is over, which has one telling more than faults are allowed
-abbrev pub made_for : Cluster → List ℕ → List ℕ → ℕ
-made_for c table path = made_of c.nodes (c.faults + 1 - length path) (held_for c table) path
+abbrev pub made_of : Cluster → List ℕ → List ℕ → ℕ
+made_of c table path = made_of_path c.nodes (c.faults + 1 - length path) (held_for c table) path
 
 -- Its result for a node, of a cluster of n that allows so many faults, is what it makes of the path of this node alone, which has been told once; a cycle has one
 -- telling more than faults are allowed.
 abbrev pub result_for : ℕ → ℕ → (List ℕ → ℕ) → ℕ → ℕ
-result_for n faults held node = made_of n faults held (node ∷ [])
+result_for n faults held node = made_of_path n faults held (node ∷ [])
 
 -- and its results by a table, for all nodes in their order
 abbrev pub results_of : Cluster → List ℕ → List ℕ

@@ -1,7 +1,7 @@
 -- What is proved of majority and results. Each statement is demanded by the contract of a function of src/theorems.rt. Assumes nothing.
-use Rattle.std.specs.Prelude.{◌≡◌, ℕ, suc, ◌+◌, ◌*◌, ◌<◌, ◌≤◌, Bool, false, not, List, [], ◌∷◌, length, map, slice_index, ◌==◌}
+use Rattle.std.specs.Prelude.{◌≡◌, ℕ, suc, ◌+◌, ◌*◌, ◌^◌, ◌<◌, ◌≤◌, Bool, false, not, List, [], ◌∷◌, length, map, slice_index, ◌==◌}
 use Rattle.std.specs.List.{range_with_len, AllByRecursion}
-use Rattle.clock.specs.Rounds.{GoodNode, FewBad}
+use Rattle.clock.specs.Rounds.{GoodNode, faulty, FewBad}
 use Rattle.clock.specs.declared.limits.Cluster.{Cluster}
 use Rattle.frame.specs.Layout.{place_in_cycle}
 use Rattle.midpoint.specs.Theorems.{Worked}
@@ -9,8 +9,8 @@ use Rattle.relay.specs.Tables.{table_length_of, held_for}
 use Rattle.relay.specs.Telling.{IsTold}
 use Rattle.relay.specs.Theorems.{turn_in}
 use Rattle.agreement.specs.Majority.{times, majority}
-use Rattle.agreement.specs.Results.{made_for, result_for, results_of}
-use Rattle.agreement.specs.Tellings.{faulty, Tells, Agrees, holding}
+use Rattle.agreement.specs.Results.{nodes_off, made_of, result_for, results_of}
+use Rattle.agreement.specs.Holdings.{Tells, Agrees, holding}
 use Rattle.agreement.specs.Cycles.{Cycle}
 
 -- If more than half of a list are one value, the majority is this value; if there is no such value, it is 0.
@@ -21,16 +21,17 @@ pub record IsMajority (values : List ℕ) : Type 0 where
 abbrev pub Most : Type 0
 Most = (values : List ℕ) → IsMajority values
 
--- Results and what is made of paths are one: the result for a node is what is made of the path of this node alone; and of a path with as many nodes as a cycle has rounds
--- that is what the table holds for it.
+-- What a node makes of a path with as many nodes as a cycle has rounds is what its table holds for it. What it makes of a shorter one is the majority of what it makes of the
+-- paths with one more node in front, for each node that is not on it. And its result for a node is what it makes of the path of this node alone.
 pub record Made (c : Cluster) (table : List ℕ) : Type 0 where
-  pub alone : (r : ℕ) → r < c.nodes → slice_index (results_of c table) r ≡ made_for c table (r ∷ [])
-  pub told_last : (path : List ℕ) → length path ≡ c.faults + 1 → made_for c table path ≡ held_for c table path
+  pub told_last : (path : List ℕ) → length path ≡ c.faults + 1 → made_of c table path ≡ held_for c table path
+  pub shorter : (path : List ℕ) → length path ≤ c.faults → made_of c table path ≡ majority (map (λ node. made_of c table (node ∷ path)) (nodes_off c.nodes path))
+  pub alone : (r : ℕ) → r < c.nodes → slice_index (results_of c table) r ≡ made_of c table (r ∷ [])
 
 abbrev pub ResultsAreMade : Type 0
 ResultsAreMade = (c : Cluster) (table : List ℕ) → Made c table
 
--- Good nodes agree, whatever the faulty ones tell, if no more are faulty than are allowed and the nodes are more than three times as many.
+-- Good nodes agree, whatever the faulty ones tell, if no more are faulty than are allowed, and there are more than three times as many nodes as faults are allowed.
 abbrev pub Agreed : Type 0
 Agreed =
     (n faults : ℕ) (good : ℕ → Bool) (held : ℕ → List ℕ → ℕ) → 3 * faults < n → faulty n good ≤ faults → Tells n faults good held → Agrees n faults good held
@@ -50,25 +51,25 @@ abbrev pub AnythingCanBeTold : Type 0
 AnythingCanBeTold =
     (n faults : ℕ) (good : ℕ → Bool) (value : ℕ → ℕ) (lies : ℕ → ℕ → List ℕ → ℕ) → Tells n faults good (holding good value lies)
 
--- And so by tables: there is such a cycle. Its tables are as long as the cluster needs, and hold numbers below 2^32 if the values and the lies are.
+-- And so by tables: there is such a cycle. Its tables are as long as the cluster needs, and hold numbers below 2^32 if the values and the lies are such.
 abbrev pub Small : List ℕ → Type 0
-Small table = (index : ℕ) → slice_index table index < 4294967296
+Small table = (index : ℕ) → slice_index table index < 2 ^ 32
 
-pub record Run (c : Cluster) (good : ℕ → Bool) (value : ℕ → ℕ) (first : ℕ) (lies : ℕ → ℕ → List ℕ → ℕ) : Type 0 where
+pub record CycleWith (c : Cluster) (good : ℕ → Bool) (value : ℕ → ℕ) (first : ℕ) (lies : ℕ → ℕ → List ℕ → ℕ) : Type 0 where
   pub tables : ℕ → ℕ → List ℕ
   pub cycle : Cycle c good value first tables
   pub long : (k p : ℕ) → length (tables k p) ≡ table_length_of c
   pub lied :
       (k p q : ℕ) → k ≤ c.faults → q < c.nodes → good q ≡ false → (path : List ℕ) → IsTold (turn_in c (first + k) q) path →
       held_for c (tables (suc k) p) (q ∷ path) ≡ lies p q path
-  pub small : ((p : ℕ) → value p < 4294967296) → ((p q : ℕ) (path : List ℕ) → lies p q path < 4294967296) → (k p : ℕ) → Small (tables k p)
+  pub small : ((p : ℕ) → value p < 2 ^ 32) → ((p q : ℕ) (path : List ℕ) → lies p q path < 2 ^ 32) → (k p : ℕ) → Small (tables k p)
 
 abbrev pub CycleCanBeRun : Type 0
 CycleCanBeRun =
-    (c : Cluster) (good : ℕ → Bool) (value : ℕ → ℕ) (first : ℕ) (lies : ℕ → ℕ → List ℕ → ℕ) → place_in_cycle c first ≡ 0 → Run c good value first lies
+    (c : Cluster) (good : ℕ → Bool) (value : ℕ → ℕ) (first : ℕ) (lies : ℕ → ℕ → List ℕ → ℕ) → place_in_cycle c first ≡ 0 → CycleWith c good value first lies
 
 -- Three times the faults are too few nodes. Of three nodes, one of which may be faulty, nodes 0 and 1 give 5 and 6; node 2 tells node 0 always 5, and node 1 always 9. Then
--- nodes 0 and 1 do not agree on node 0, and what node 1 comes to is not the value that node 0 gave.
+-- nodes 0 and 1 do not agree on node 0, and what node 1 comes to is not the value that node 0 gave. With all else that `Agreed` asks.
 abbrev pub but : ℕ → ℕ → Bool
 but liar node = not (node == liar)
 
@@ -80,6 +81,7 @@ pub record ThreeAreTooFew : Type 0 where
   pub one : faulty 3 (but 2) ≡ 1
   pub by_0 : map (result_for 3 1 (held_by_three 0)) (range_with_len 0 3) ≡ 5 ∷ 0 ∷ 0 ∷ []
   pub by_1 : map (result_for 3 1 (held_by_three 1)) (range_with_len 0 3) ≡ 0 ∷ 0 ∷ 0 ∷ []
+  pub fail : Agrees 3 1 (but 2) held_by_three → ⊥
 
 -- Cases worked out by hand, those of the midpoint and these: of four nodes, one of which may be faulty, nodes 0 to 2 give 5, 6 and 7. Node 3 sends them in the first
 -- round what a case says, where nothing is 0, and tells everybody in the second that it heard 9 of each. So they all come to the results.

@@ -4,7 +4,7 @@ ghost use Rattle.std.specs.List.{push};
 ghost use Rattle.agreement.specs.Majority.{times, is_most, majority};
 ghost use Rattle.agreement.specs.Pairs.{IsLeftOf};
 
-/// The value that more than half of the values are, or 0 if there is none. A 0 is a value like any other, and is counted in
+/// The value that more than half of the values have, or 0 if there is none. A 0 is a value like any other, and is counted in
 /// the length.
 #[tactic(auto, using(crate::proofs::Majorities::majority_found, crate::proofs::Majorities::majority_not_found))]
 pub fn majority(values: &[u32]) -> u32
@@ -24,7 +24,7 @@ fn is_most(values: &[u32], value: u32) -> bool
     times > others
 }
 
-// The only value that more than half of the values can be: what is left when values that differ are struck out in pairs.
+// The only value that more than half can have: what is left when values that differ are struck out in pairs.
 fn candidate(values: &[u32]) -> u32
     ensures { (value : ℕ) → is_most values.now value ≡ true → value ≡ result }
 {

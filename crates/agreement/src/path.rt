@@ -5,7 +5,7 @@ ghost use Rattle.relay.specs.Paths.{AllBelow, stands_in, row_at};
 
 use relay::NodeSet;
 
-// A row of nodes, by its index: how many nodes it has, and which.
+// A path, by its index: how many nodes it has, and which nodes are on it.
 #[derive(Clone, Copy)]
 pub(crate) struct Path {
     pub(crate) cluster_nodes: usize,
@@ -21,7 +21,7 @@ pub(crate) struct Path {
 impl Path {
     ghost use Rattle.agreement.specs.Rows.{row_of};
 
-    // The path of no nodes, of a cluster with so many.
+    // The path of no nodes, of a cluster of so many nodes.
     pub(crate) fn empty(cluster_nodes: usize) -> Path
         requires { cluster_nodes ≤ 16 }
         ensures cluster { result.cluster_nodes ≡ cluster_nodes }
@@ -53,7 +53,7 @@ impl Path {
     }
 
     // The path with one more node in front.
-    #[tactic(auto, using(crate::proofs::Fronts::index_fits, crate::proofs::Fronts::row_more))]
+    #[tactic(auto, using(crate::proofs::Fronts::front_fits, crate::proofs::Fronts::row_more))]
     pub(crate) fn with(self, node: usize) -> Path
         requires of_cluster { node < self.cluster_nodes }
         requires short { self.length < 4 }

@@ -8,13 +8,13 @@ use midpoint::Code;
 /// Why no results are given. Where both apply it is the first.
 #[derive(Clone, Copy, PartialEq, Eq, Debug)]
 pub enum Refusal {
-    /// The table is turned away.
+    /// The table is turned away, for this reason.
     Table(relay::Refusal),
-    /// The memory for the results has another length than the cluster has nodes, which are given.
+    /// The memory for the results has not one place for each node; how many nodes there are is given.
     ResultsLength { needed: usize },
 }
 
-/// A table is turned away as everywhere.
+/// A table that `relay` turns away.
 impl From<relay::Refusal> for Refusal {
     ghost from_gives = { λ refusal carried. carried ≡ Table refusal };
 

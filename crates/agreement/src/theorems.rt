@@ -7,7 +7,7 @@ pub fn majority_is_the_most()
     ensures { Most }
 {}
 
-/// The result for a node is what is made of the path of this node alone.
+/// What is made of paths, the longest first, and the results, which are what is made of the paths of one node.
 pub fn results_are_made_of_paths()
     ensures { ResultsAreMade }
 {}
@@ -32,7 +32,7 @@ pub fn cycle_can_be_run()
     ensures { CycleCanBeRun }
 {}
 
-/// With no more than three nodes for a fault good nodes do not always agree.
+/// Of three nodes, one of which may be faulty, the good ones need not agree.
 pub fn three_nodes_are_too_few()
     ensures { ThreeAreTooFew }
 {}

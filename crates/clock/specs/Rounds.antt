@@ -24,12 +24,19 @@ lead m = ahead m m.clock.shown
 abbrev pub Within : ℕ → ℤ → ℤ → Type 0
 Within d a b = (a ≤ℤ (b +ℤ pos d)) × (b ≤ℤ (a +ℤ pos d))
 
+-- a node of n that is good, and how many of them are faulty
+abbrev pub Good : ℕ → (ℕ → Bool) → ℕ → Type 0
+Good n good p = (p < n) × (good p ≡ true)
+
+abbrev pub faulty : ℕ → (ℕ → Bool) → ℕ
+faulty n good = count (λ q. not (good q)) (range_with_len 0 n)
+
 -- a node of the cluster that is good; no more are not than may be faulty
 abbrev pub GoodNode : Cluster → (ℕ → Bool) → ℕ → Type 0
-GoodNode c good p = (p < c.nodes) × (good p ≡ true)
+GoodNode c good p = Good c.nodes good p
 
 abbrev pub FewBad : Cluster → (ℕ → Bool) → Type 0
-FewBad c good = count (λ q. not (good q)) (range_with_len 0 c.nodes) ≤ c.faults
+FewBad c good = faulty c.nodes good ≤ c.faults
 
 -- good clocks are no more than d apart
 abbrev pub Apart : Cluster → (ℕ → Bool) → ℕ → (ℕ → Moment) → Type 0

@@ -50,7 +50,10 @@ row_at_number n (node ∷ row) all =
     let rest = row_at_number n row (All-tail (λ node. node < n) node row all) in
     rw (mod-mul-add (index_of n row) n node head, div-mul-add (index_of n row) n node head) (ap (λ row. node ∷ row) rest)
 
--- a row in front of which a node is put
+-- a row in front of which a node is put: its number is one of the rows with one node more
+pub index_more : (n count index node : ℕ) → node < n → index < n ^ count → index * n + node < n ^ suc count
+index_more n count index node known within = rw (pow-suc n count) (omega (arith, mul-add-lt index n node (n ^ count) within known))
+
 pub row_at_more : (n count index node : ℕ) → node < n → row_at n (suc count) (index * n + node) ≡ node ∷ row_at n count index
 row_at_more n count index node h = rw (mod-mul-add index n node h, div-mul-add index n node h)
 

@@ -1,12 +1,12 @@
 -- Rows of nodes as they are given: their numbers, and the first node that is wrong. Assumes nothing.
-use Rattle.std.proofs.Common.{◌≡◌, ℕ, ◌+◌, ◌-◌, ◌*◌, ◌^◌, ◌≤◌, ◌<◌, suc, zero, not, ◌&&◌, ◌==◌, nat_lt, nat_le, true, false, refl, List, [], ◌∷◌, length, drop, take, Some, None, inl, inr, slice_index, get_or, sym, ap, ◌∙◌, arith}
+use Rattle.std.proofs.Common.{◌≡◌, ℕ, ◌+◌, ◌-◌, ◌*◌, ◌^◌, ◌≤◌, ◌<◌, suc, zero, ◌==◌, nat_le, true, false, refl, List, [], ◌∷◌, length, drop, take, Some, None, inl, inr, slice_index, get_or, sym, ap, ◌∙◌, arith}
 use Rattle.std.specs.List.{range_with_len, position}
 use Rattle.std.proofs.Math.Nat.{pow-le-pow_right, one-le-pow}
 use Rattle.std.proofs.lemmas.List.{drop_more, length-drop, get_or_default}
 use Rattle.std.proofs.lemmas.List.Elements.{All-drop}
 use Rattle.std.proofs.lemmas.List.FromFn.{length-range_with_len, get_or-range_with_len}
 use Rattle.std.proofs.lemmas.List.Sums.{fails_before_first, position_or_len_is}
-use Rattle.std.proofs.lemmas.Bool.{cases_lt, lt-ltb, le-ltb, lt-leb, leb-false, ltb-true, or_parts, or_from, and_from, eqb-false, ne_eqb}
+use Rattle.std.proofs.lemmas.Bool.{cases_lt, lt-ltb, le-ltb, lt-leb, leb-false, ltb-true, or_parts, or_from, eqb-false, ne_eqb}
 use Rattle.std.proofs.lemmas.Bool.Decides.{nat_tests}
 use Rattle.std.proofs.lemmas.Option.{none-some, same_Some}
 use Rattle.relay.specs.Paths.{AllBelow, index_of, is_path, stands_in}
@@ -14,7 +14,7 @@ use Rattle.relay.specs.Tables.{wrong_at, first_wrong, no_path, table_length_of}
 use Rattle.midpoint.specs.Refusals.{first_applying}
 use Rattle.clock.specs.declared.limits.Cluster.{Cluster}
 use Rattle.relay.specs.Theorems.{PathsAreTaken}
-use Rattle.relay.proofs.Told.{path_parts}
+use Rattle.relay.proofs.Told.{path_parts, longer}
 use Rattle.relay.proofs.Numbers.{index_below, index_small}
 
 -- the number of a row from a place on, one place earlier
@@ -111,8 +111,7 @@ path_from n (x ∷ row) fine =
     let first : nat_le n x ≡ false = (or_parts (nat_le n x) false (fine 0 (omega arith))).0 in
     let behind : (k : ℕ) → k < length row → Behind n x row k = λ k h. behind_first n x row k (fine (suc k) (omega (arith, h))) in
     let free = stands_not x row (λ k h. (behind k h).apart) in
-    and_from (nat_lt x n && not (stands_in x row)) (is_path n row)
-    (and_from (nat_lt x n) (not (stands_in x row)) (lt-ltb x n (leb-false n x first)) (ap not free)) (path_from n row (λ k h. (behind k h).fine))
+    longer n x row (leb-false n x first) free (path_from n row (λ k h. (behind k h).fine))
 
 fine_at : (n x : ℕ) (row : List ℕ) (k : ℕ) → k < suc (length row) → x < n → stands_in x row ≡ false → ((j : ℕ) → j < length row → wrong_at n row j ≡ false) →
     wrong_at n (x ∷ row) k ≡ false

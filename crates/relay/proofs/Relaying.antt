@@ -1,8 +1,8 @@
 -- What is held of what was told. Assumes nothing.
-use Rattle.std.proofs.Common.{◌≡◌, ℕ, zero, suc, ◌+◌, ◌^◌, ◌<◌, Bool, true, false, not, ◌&&◌, ◌||◌, ◌==◌, nat_lt, List, [], ◌∷◌, length, map, get_or, slice_index, inl, inr, sym, refl, ap, ◌∙◌, arith}
+use Rattle.std.proofs.Common.{◌≡◌, ℕ, zero, suc, ◌+◌, ◌^◌, ◌<◌, Bool, true, false, not, ◌||◌, ◌==◌, List, [], ◌∷◌, length, map, get_or, slice_index, inl, inr, sym, refl, ap, ◌∙◌, arith}
 use Rattle.std.specs.List.{Contains, filter, range_with_len}
 use Rattle.std.proofs.Math.Nat.{pow-suc, one-le-pow}
-use Rattle.std.proofs.lemmas.Bool.{cases_Bool, or_parts, eqb-true, eqb-false, true≢false, false≢true, and_parts, and_from, ltb-true, lt-ltb}
+use Rattle.std.proofs.lemmas.Bool.{cases_Bool, or_parts, eqb-true, eqb-false, true≢false, false≢true, not-true, and_parts, and_from, ltb-true}
 use Rattle.std.proofs.lemmas.Bool.Decides.{nat_tests}
 use Rattle.std.proofs.lemmas.Nat.{same_from_place, mul-le}
 use Rattle.std.proofs.lemmas.List.{get_or-set_same, get_or-map, length-drop}
@@ -21,7 +21,7 @@ use Rattle.relay.specs.Theorems.{IsPathBehind, turn_in, EnteredAll, RoundIsWhole
 use Rattle.relay.proofs.Lists.{list_by_index}
 use Rattle.relay.proofs.Numbers.{index_below, power_small, rows_long}
 use Rattle.relay.proofs.Order.{listed}
-use Rattle.relay.proofs.Told.{path_parts}
+use Rattle.relay.proofs.Told.{path_parts, longer}
 use Rattle.relay.proofs.Counts.{paths_are_as_many}
 use Rattle.relay.proofs.Entering.{told_by_index}
 use Rattle.relay.proofs.Turns.{place_of, indices_rise, entry_within}
@@ -68,7 +68,7 @@ longer_path : (t : Turn) (path : List ℕ) → t.sender < t.cluster.nodes → Is
 longer_path t path known told =
     let n = t.cluster.nodes in
     let (is, free) = and_parts (is_path n path) (not (stands_in t.sender path)) told.path_without_sender in
-    and_from (nat_lt t.sender n && not (stands_in t.sender path)) (is_path n path) (and_from (nat_lt t.sender n) (not (stands_in t.sender path)) (lt-ltb t.sender n known) free) is
+    longer n t.sender path known (not-true (stands_in t.sender path) free) is
 
 pub paths_in_order : PathsAreInOrder
 paths_in_order t = record {

@@ -1,6 +1,6 @@
 -- Which rows are told of, a node at a time. Assumes nothing.
 use Rattle.std.proofs.Common.{◌≡◌, ℕ, suc, ◌-◌, ◌/◌, ◌%◌, ◌≤◌, ◌<◌, Bool, true, false, not, ◌&&◌, ◌||◌, ◌==◌, nat_lt, List, ◌∷◌, inl, inr, sym, refl, ap, ◌∙◌, arith}
-use Rattle.std.proofs.lemmas.Bool.{cases_Bool, and_parts, and_cases, and_left, and_right, or_parts, or_right, not-true, not-false, not_from_true, lt-ltb, false≢true}
+use Rattle.std.proofs.lemmas.Bool.{cases_Bool, and_parts, and_from, and_cases, and_left, and_right, or_parts, or_right, not-true, not-false, not_from_true, lt-ltb, false≢true}
 use Rattle.std.proofs.lemmas.Nat.{mod_below}
 use Rattle.relay.specs.Nodes.{among, added}
 use Rattle.relay.specs.Paths.{stands_in, is_path, is_path_without, row_at}
@@ -17,6 +17,11 @@ path_parts n node path is =
     let (front, behind) = and_parts (nat_lt node n && not (stands_in node path)) (is_path n path) is in
     let (within, free) = and_parts (nat_lt node n) (not (stands_in node path)) front in
     record { within = within; free = not-true (stands_in node path) free; behind = behind }
+
+-- and what makes one
+pub longer : (n node : ℕ) (path : List ℕ) → node < n → stands_in node path ≡ false → is_path n path ≡ true → is_path n (node ∷ path) ≡ true
+longer n node path within free is =
+    and_from (nat_lt node n && not (stands_in node path)) (is_path n path) (and_from (nat_lt node n) (not (stands_in node path)) (lt-ltb node n within) (ap not free)) is
 
 -- and of one that a node tells of
 pub record Parts (n sender node : ℕ) (path : List ℕ) : Type 0 where

@@ -2,8 +2,7 @@
 use Rattle.std.proofs.Common.{◌≡◌, ℕ, suc, ◌+◌, ◌*◌, ◌^◌, ◌≤◌, ◌<◌, Bool, not, List, [], length, map, get_or, slice_index, refl, arith}
 use Rattle.std.specs.List.{All, filter, range_with_len}
 use Rattle.std.specs.List.Sorted.{IsStrictlyIncreasing}
-use Rattle.std.proofs.Math.Nat.{pow-suc, pow-le-pow_right}
-use Rattle.std.proofs.lemmas.Nat.{mul-add-lt}
+use Rattle.std.proofs.Math.Nat.{pow-le-pow_right}
 use Rattle.std.proofs.lemmas.List.FromFn.{length-range_with_len, get_or-range_with_len}
 use Rattle.std.proofs.lemmas.List.{get_or-map, length-map}
 use Rattle.std.proofs.lemmas.List.Elements.{All-filter, filter_passes, All-same}
@@ -15,7 +14,7 @@ use Rattle.frame.specs.declared.turn.Turn.{Turn}
 use Rattle.relay.specs.Paths.{index_of, is_path_without, rows, row_at}
 use Rattle.relay.specs.Tables.{table_length_of}
 use Rattle.relay.specs.Telling.{paths_of, IsTold}
-use Rattle.relay.proofs.Numbers.{numbers_where, rows_long, range_below}
+use Rattle.relay.proofs.Numbers.{index_more, numbers_where, rows_long, range_below}
 
 -- how many nodes the paths have, and their numbers
 abbrev pub place_of : Turn → ℕ
@@ -55,8 +54,7 @@ pub entry_within : (t : Turn) (index : ℕ) → t.sender < t.cluster.nodes → i
     index * t.cluster.nodes + t.sender < table_length_of t.cluster
 entry_within t index known within =
     let n = t.cluster.nodes in
-    let here : index * n + t.sender < n * n ^ place_of t = mul-add-lt index n t.sender (n ^ place_of t) within known in
-    let here : index * n + t.sender < n ^ suc (place_of t) = rw (pow-suc n (place_of t)) (omega (arith, here)) in
+    let here = index_more n (place_of t) index t.sender known within in
     let more : n ^ suc (place_of t) ≤ n ^ (t.cluster.faults + 1) = pow-le-pow_right (omega (arith, t.cluster.enough)) (omega (arith, within_cycle t)) in
     omega (arith, here, more)
 

@@ -12,10 +12,13 @@ use Rattle.relay.specs.declared.refusal.Refusal.TheVariants.{TableLength, PathLe
 abbrev pub table_length_of : Cluster → ℕ
 table_length_of c = c.nodes ^ (c.faults + 1)
 
--- What a table holds for a row of nodes stands at its index; past the end of the table that is 0. A node's own value stands at the index of the row of
--- no nodes, which is 0.
+-- What a table of a cluster of n nodes holds for a row of nodes stands at its index; past the end of the table that is 0. A node's own value stands at the
+-- index of the row of no nodes, which is 0.
+abbrev pub held_in : ℕ → List ℕ → List ℕ → ℕ
+held_in n table row = slice_index table (index_of n row)
+
 abbrev pub held_for : Cluster → List ℕ → List ℕ → ℕ
-held_for c table row = slice_index table (index_of c.nodes row)
+held_for c table row = held_in c.nodes table row
 
 -- a table of another length than the cluster needs
 abbrev pub unfit : Cluster → List ℕ → Row Refusal

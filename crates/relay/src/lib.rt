@@ -23,5 +23,5 @@ pub mod theorems;
 pub use nodes::NodeSet;
 pub use path::known_path;
 pub use refusal::Refusal;
-pub use table::{MAX_TABLE_LENGTH, begin_cycle, fits, held_for, table_length};
+pub use table::{MAX_TABLE_LENGTH, begin_cycle, fitting_table, held_for, table_length};
 pub use telling::{Telling, enter_heard, enter_reception, enter_silence};

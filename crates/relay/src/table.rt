@@ -27,7 +27,7 @@ pub fn table_length(cluster: &Cluster) -> usize
 pub fn held_for(cluster: &Cluster, table: &[u32], path: &[u8]) -> Result<u32, Refusal>
     ensures { ByRows (unfit cluster.now table.now ∷ no_path cluster.now path.now) (λ e. e) (λ value. value ≡ held_for cluster.now table.now path.now) result }
 {
-    fits(cluster, table)?;
+    fitting_table(cluster, table)?;
     let index = path_index(cluster, path)?;
     Ok(table[index])
 }
@@ -41,13 +41,13 @@ pub fn begin_cycle(cluster: &Cluster, table: &mut [u32], value: u32) -> Result<(
     ensures answer { ByRows (unfit cluster.now table.old ∷ []) (λ e. e) (λ _. Unit {0}) result }
     ensures table { MatchResult result (λ _. table.new ≡ with_entry cluster.now [] value table.old) (λ _. table.new ≡ table.old) }
 {
-    fits(cluster, table)?;
+    fitting_table(cluster, table)?;
     table[0] = value;
     Ok(())
 }
 
 /// Whether a table has the length that the cluster needs; one of another length is refused, 10 at the length needed.
-pub fn fits(cluster: &Cluster, table: &[u32]) -> Result<(), Refusal>
+pub fn fitting_table(cluster: &Cluster, table: &[u32]) -> Result<(), Refusal>
     ensures { ByRows (unfit cluster.now table.now ∷ []) (λ e. e) (λ _. Unit {0}) result }
 {
     let needed = table_length(cluster);

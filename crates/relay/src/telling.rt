@@ -9,7 +9,7 @@ ghost use Rattle.relay.specs.Telling.{told_from, untold, heard_in, nothing_heard
 
 use crate::indices::PathIndices;
 use crate::refusal::Refusal;
-use crate::table::fits;
+use crate::table::fitting_table;
 use frame::{Reception, Turn, VALUE_LENGTH, Values, put_value, value};
 
 /// What a node tells in its turn: for each path without it, of as many nodes as the round's place in its cycle, what its
@@ -127,7 +127,7 @@ fn held_at(table: &[u32], index: Option<usize>) -> u32
 fn can_tell(turn: &Turn, table: &[u32]) -> Result<(), Refusal>
     ensures { ByRows (untold turn.now table.now) (λ e. e) (λ _. Unit {0}) result }
 {
-    fits(&turn.cluster, table)?;
+    fitting_table(&turn.cluster, table)?;
     if turn.sender as u64 >= turn.cluster.nodes() {
         return Err(Refusal::Node { place: 0 });
     }

@@ -4,7 +4,7 @@ use Rattle.relay.specs.Paths.{stands_in}
 use Rattle.agreement.specs.Rows.{row_of, made_in}
 use Rattle.agreement.proofs.making.+made_of_path.Given as goal
 
--- a call for a path comes from one for the list of paths with one more node in front, which has as many tellings left, and this one from a call for a path with one left more
+-- A list of paths has as many tellings left as each of its paths, and one fewer than the path that it comes from.
 abbrev pub decreases-made_of_path : goal.decreases-made_of_path
 decreases-made_of_path l = 2 * l.left
 

@@ -1,25 +1,17 @@
 -- What good nodes hold for paths, as functions on paths. Assumes nothing: these are definitions.
-use Rattle.std.specs.Prelude.{◌≡◌, ℕ, ◌<◌, ◌≤◌, Bool, true, cond, not, List, [], ◌∷◌, length}
-use Rattle.std.specs.List.{range_with_len}
-use Rattle.midpoint.specs.Order.{count}
+use Rattle.std.specs.Prelude.{◌≡◌, ℕ, ◌<◌, ◌≤◌, Bool, true, cond, List, [], ◌∷◌, length}
+use Rattle.clock.specs.Rounds.{Good}
 use Rattle.relay.specs.Paths.{is_path}
 use Rattle.agreement.specs.Results.{result_for}
 
--- a good node of a cluster of n, and how many of them are faulty
-abbrev pub Good : ℕ → (ℕ → Bool) → ℕ → Type 0
-Good n good node = (node < n) × (good node ≡ true)
-
-abbrev pub faulty : ℕ → (ℕ → Bool) → ℕ
-faulty n good = count (λ node. not (good node)) (range_with_len 0 n)
-
--- `held p path` is what node p holds for a path, and for the row of no nodes the value that it gives. A good node tells all what it holds: so what a good node p holds
--- for a good node q in front of a path is what q holds for the path. That is asked of paths only, and of no more tellings than a cycle has; of what faulty nodes tell
--- nothing is asked.
+-- `held p path` is what node p holds for a path, and for the row of no nodes the value that it gives. A good node tells all what it holds: so what a good
+-- node p holds for a good node q in front of a path is what q holds for the path. That is asked of paths only, and of no more nodes than a cycle tells of; of what
+-- faulty nodes tell nothing is asked.
 abbrev pub Tells : ℕ → ℕ → (ℕ → Bool) → (ℕ → List ℕ → ℕ) → Type 0
 Tells n faults good held =
     (p q : ℕ) (path : List ℕ) → Good n good p → Good n good q → is_path n (q ∷ path) ≡ true → length path ≤ faults → held p (q ∷ path) ≡ held q path
 
--- Good nodes agree: any two of them have the same result for each node; and for a good node it is the value that it gave.
+-- Good nodes agree: any two of them have the same result for each node, and for a good node that is the value that it gave.
 pub record Agrees (n faults : ℕ) (good : ℕ → Bool) (held : ℕ → List ℕ → ℕ) : Type 0 where
   pub same : (p q r : ℕ) → Good n good p → Good n good q → r < n → result_for n faults (held p) r ≡ result_for n faults (held q) r
   pub right : (p r : ℕ) → Good n good p → Good n good r → result_for n faults (held p) r ≡ held r []
