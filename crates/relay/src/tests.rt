@@ -20,14 +20,6 @@ const FAR: u64 = 4_294_967_296;
 // A table of four nodes that allow one fault has 16 entries.
 const SIXTEEN: Refusal = Refusal::TableLength { needed: 16 };
 
-fn of_length(length: usize) -> Result<u32, Refusal> {
-    Err(Refusal::PathLength { length })
-}
-
-fn at(place: usize) -> Result<u32, Refusal> {
-    Err(Refusal::Node { place })
-}
-
 fn turn_of(nodes: u64, faults: u64, sender: u8, round: u64) -> Result<Turn, Fail> {
     Ok(Turn {
         cluster: Cluster::new(nodes, faults, 0, 0)?,
@@ -39,6 +31,27 @@ fn turn_of(nodes: u64, faults: u64, sender: u8, round: u64) -> Result<Turn, Fail
 // With 4 nodes and 1 fault a cycle has two rounds: an even one is its first, an odd one its second.
 fn four(sender: u8, round: u64) -> Result<Turn, Fail> {
     turn_of(4, 1, sender, round)
+}
+
+// A call answers this. To compare in a function of its own takes less to prove, here and below.
+fn answers(rt: &impl Abort, answer: Result<(), Refusal>, wanted: Result<(), Refusal>) {
+    assert_eq!(rt; answer, wanted);
+}
+
+// A table of four nodes is this.
+fn table_is(rt: &impl Abort, table: [u32; 16], wanted: [u32; 16]) {
+    assert_eq!(rt; table, wanted);
+}
+
+// This is what a table holds for a path.
+fn holds(
+    rt: &impl Abort,
+    cluster: &Cluster,
+    table: &[u32],
+    path: &[u8],
+    wanted: Result<u32, Refusal>,
+) {
+    assert_eq!(rt; held_for(cluster, table, path), wanted);
 }
 
 // In this turn these values are told from a table: the frame has as many, and is the one that is written of them.
@@ -53,29 +66,43 @@ fn tells(rt: &impl Abort, turn: Turn, table: &[u32], values: &[u32]) -> Result<(
 }
 
 // A round for one of four nodes, with the frame of each; a silent one's has no bytes. Its own has the bytes that it writes.
+// The table that it enters into comes to be the one that is wanted.
 fn goes_through(
     rt: &impl Abort,
     own: usize,
     round: u64,
     frames: [&[u8]; 4],
-    read: &[u32],
-    written: &mut [u32],
+    read: &[u32; 16],
+    written: &mut [u32; 16],
+    wanted: [u32; 16],
 ) -> Result<(), Fail> {
     for sender in 0..4 {
         let turn = four(sender as u8, round)?;
         let frame = frames[sender];
         if sender == own {
-            let mut memory = [0; 17];
-            let telling = Telling::new(turn, read)?;
-            assert_eq!(rt; telling.write(&mut memory), Ok(frame.len()));
-            assert!(rt; memory.starts_with(frame));
-            telling.enter(written)?;
+            tells_own(rt, turn, frame, read, written)?;
         } else if frame.is_empty() {
             enter_silence(&turn, written)?;
         } else {
             enter_heard(&turn, turn.read(frame)?, written)?;
         }
     }
+    table_is(rt, *written, wanted);
+    Ok(())
+}
+
+fn tells_own(
+    rt: &impl Abort,
+    turn: Turn,
+    frame: &[u8],
+    read: &[u32],
+    written: &mut [u32],
+) -> Result<(), Fail> {
+    let mut memory = [0; 17];
+    let telling = Telling::new(turn, read)?;
+    assert_eq!(rt; telling.write(&mut memory), Ok(frame.len()));
+    assert!(rt; memory.starts_with(frame));
+    telling.enter(written)?;
     Ok(())
 }
 
@@ -86,68 +113,115 @@ fn goes_through(
 // past the entries of the four nodes.
 #[test]
 fn two_cycles_of_four(rt: HostRuntime) -> Result<(), Fail> {
-    let cluster = Cluster::new(4, 1, 0, 0)?;
     for (own, value, lie, next, other) in [(0, 5, 1, 2, 0), (1, 6, 2, 3, 5), (2, 7, 3, 4, 6)] {
         let mut even = [8; 16];
         let mut odd = [4; 16];
-        assert_eq!(rt; begin_cycle(&cluster, &mut even, value), Ok(()));
-        let frames = [
-            [0, 6, 0, 0, 0, 5, 0, 0, 0].as_slice(),
-            &[1, 6, 0, 0, 0, 6, 0, 0, 0],
-            &[2, 6, 0, 0, 0, 7, 0, 0, 0],
-            &[3, 6, 0, 0, 0, lie, 0, 0, 0],
-        ];
-        goes_through(&rt, own, 6, frames, &even, &mut odd)?;
-        let told = lie as u32;
-        assert_eq!(rt; odd, [5, 6, 7, told, 4, 4, 4, 4, 4, 4, 4, 4, 4, 4, 4, 4]);
-        let frames = [
-            [0, 7, 0, 0, 0, 6, 0, 0, 0, 7, 0, 0, 0, 1, 0, 0, 0].as_slice(),
-            &[1, 7, 0, 0, 0, 5, 0, 0, 0, 7, 0, 0, 0, 2, 0, 0, 0],
-            &[2, 7, 0, 0, 0, 5, 0, 0, 0, 6, 0, 0, 0, 3, 0, 0, 0],
-            &[3, 7, 0, 0, 0, 9, 0, 0, 0, 9, 0, 0, 0, 9, 0, 0, 0],
-        ];
-        goes_through(&rt, own, 7, frames, &odd, &mut even)?;
-        assert_eq!(rt; even, [value, 5, 5, 9, 6, 8, 6, 9, 7, 7, 8, 9, 1, 2, 3, 8]);
-        for (node, number, others, numbers) in [
-            (0, 5, [1, 2, 3], [5, 5, 9]),
-            (1, 6, [0, 2, 3], [6, 6, 9]),
-            (2, 7, [0, 1, 3], [7, 7, 9]),
-            (3, told, [0, 1, 2], [1, 2, 3]),
-        ] {
-            assert_eq!(rt; held_for(&cluster, &odd, &[node]), Ok(number));
-            for place in 0..3 {
-                let path = [others[place], node];
-                assert_eq!(rt; held_for(&cluster, &even, &path), Ok(numbers[place]));
-            }
-        }
-        assert_eq!(rt; begin_cycle(&cluster, &mut even, next), Ok(()));
-        let heard = [3, 8, 0, 0, 0, other, 0, 0, 0];
-        let frames = [
-            [0, 8, 0, 0, 0, 2, 0, 0, 0].as_slice(),
-            &[1, 8, 0, 0, 0, 3, 0, 0, 0],
-            &[2, 8, 0, 0, 0, 4, 0, 0, 0],
-            if own == 0 { &[] } else { &heard },
-        ];
-        goes_through(&rt, own, 8, frames, &even, &mut odd)?;
-        let told = other as u32;
-        assert_eq!(rt; odd, [2, 3, 4, told, 4, 4, 4, 4, 4, 4, 4, 4, 4, 4, 4, 4]);
-        let frames = [
-            [0, 9, 0, 0, 0, 3, 0, 0, 0, 4, 0, 0, 0, 0, 0, 0, 0].as_slice(),
-            &[1, 9, 0, 0, 0, 2, 0, 0, 0, 4, 0, 0, 0, 5, 0, 0, 0],
-            &[2, 9, 0, 0, 0, 2, 0, 0, 0, 3, 0, 0, 0, 6, 0, 0, 0],
-            &[],
-        ];
-        goes_through(&rt, own, 9, frames, &odd, &mut even)?;
-        assert_eq!(rt; even, [next, 2, 2, 0, 3, 8, 3, 0, 4, 4, 8, 0, 0, 5, 6, 8]);
+        first_cycle(&rt, own, value, lie, &mut even, &mut odd)?;
+        held_after_first_cycle(&rt, lie as u32, &even, &odd)?;
+        second_cycle(&rt, own, next, other, &mut even, &mut odd)?;
     }
     Ok(())
+}
+
+// Node 3 tells this one the lie.
+fn first_cycle(
+    rt: &impl Abort,
+    own: usize,
+    value: u32,
+    lie: u8,
+    even: &mut [u32; 16],
+    odd: &mut [u32; 16],
+) -> Result<(), Fail> {
+    begins(rt, even, value)?;
+    let frames = [
+        [0, 6, 0, 0, 0, 5, 0, 0, 0].as_slice(),
+        &[1, 6, 0, 0, 0, 6, 0, 0, 0],
+        &[2, 6, 0, 0, 0, 7, 0, 0, 0],
+        &[3, 6, 0, 0, 0, lie, 0, 0, 0],
+    ];
+    let told = lie as u32;
+    let wanted = [5, 6, 7, told, 4, 4, 4, 4, 4, 4, 4, 4, 4, 4, 4, 4];
+    goes_through(rt, own, 6, frames, even, odd, wanted)?;
+    let frames = [
+        [0, 7, 0, 0, 0, 6, 0, 0, 0, 7, 0, 0, 0, 1, 0, 0, 0].as_slice(),
+        &[1, 7, 0, 0, 0, 5, 0, 0, 0, 7, 0, 0, 0, 2, 0, 0, 0],
+        &[2, 7, 0, 0, 0, 5, 0, 0, 0, 6, 0, 0, 0, 3, 0, 0, 0],
+        &[3, 7, 0, 0, 0, 9, 0, 0, 0, 9, 0, 0, 0, 9, 0, 0, 0],
+    ];
+    let wanted = [value, 5, 5, 9, 6, 8, 6, 9, 7, 7, 8, 9, 1, 2, 3, 8];
+    goes_through(rt, own, 7, frames, odd, even, wanted)
+}
+
+fn begins(rt: &impl Abort, table: &mut [u32], value: u32) -> Result<(), Fail> {
+    let cluster = Cluster::new(4, 1, 0, 0)?;
+    answers(rt, begin_cycle(&cluster, table, value), Ok(()));
+    Ok(())
+}
+
+// Node 3 told this.
+fn held_after_first_cycle(
+    rt: &impl Abort,
+    told: u32,
+    even: &[u32],
+    odd: &[u32],
+) -> Result<(), Fail> {
+    let cluster = Cluster::new(4, 1, 0, 0)?;
+    for (node, number) in [(0, 5), (1, 6), (2, 7), (3, told)] {
+        holds(rt, &cluster, odd, &[node], Ok(number));
+    }
+    for (path, number) in [
+        ([1, 0], 5),
+        ([2, 0], 5),
+        ([3, 0], 9),
+        ([0, 1], 6),
+        ([2, 1], 6),
+        ([3, 1], 9),
+        ([0, 2], 7),
+        ([1, 2], 7),
+        ([3, 2], 9),
+        ([0, 3], 1),
+        ([1, 3], 2),
+        ([2, 3], 3),
+    ] {
+        holds(rt, &cluster, even, &path, Ok(number));
+    }
+    Ok(())
+}
+
+// Node 3 tells this one the other value, and node 0 nothing.
+fn second_cycle(
+    rt: &impl Abort,
+    own: usize,
+    next: u32,
+    other: u8,
+    even: &mut [u32; 16],
+    odd: &mut [u32; 16],
+) -> Result<(), Fail> {
+    begins(rt, even, next)?;
+    let heard = [3, 8, 0, 0, 0, other, 0, 0, 0];
+    let frames = [
+        [0, 8, 0, 0, 0, 2, 0, 0, 0].as_slice(),
+        &[1, 8, 0, 0, 0, 3, 0, 0, 0],
+        &[2, 8, 0, 0, 0, 4, 0, 0, 0],
+        if own == 0 { &[] } else { &heard },
+    ];
+    let told = other as u32;
+    let wanted = [2, 3, 4, told, 4, 4, 4, 4, 4, 4, 4, 4, 4, 4, 4, 4];
+    goes_through(rt, own, 8, frames, even, odd, wanted)?;
+    let frames = [
+        [0, 9, 0, 0, 0, 3, 0, 0, 0, 4, 0, 0, 0, 0, 0, 0, 0].as_slice(),
+        &[1, 9, 0, 0, 0, 2, 0, 0, 0, 4, 0, 0, 0, 5, 0, 0, 0],
+        &[2, 9, 0, 0, 0, 2, 0, 0, 0, 3, 0, 0, 0, 6, 0, 0, 0],
+        &[],
+    ];
+    let wanted = [next, 2, 2, 0, 3, 8, 3, 0, 4, 4, 8, 0, 0, 5, 6, 8];
+    goes_through(rt, own, 9, frames, odd, even, wanted)
 }
 
 // In an even round the entry of index 0 is told, and entered at the sender's number. In an odd one those of the other nodes
 // are told, in their order, and entered at four times the node's number and the sender's; none is told of the sender itself.
 #[test]
 fn rounds_of_each_node(rt: HostRuntime) -> Result<(), Fail> {
-    let read = [9, 1, 2, 3, 4, 5, 6, 7, 8, 9, 10, 11, 12, 13, 14, 15];
     for (round, sender, told, indices) in [
         (10, 0, [9].as_slice(), [0].as_slice()),
         (10, 1, &[9], &[1]),
@@ -158,24 +232,43 @@ fn rounds_of_each_node(rt: HostRuntime) -> Result<(), Fail> {
         (11, 2, &[9, 1, 3], &[2, 6, 14]),
         (11, 3, &[9, 1, 2], &[3, 7, 11]),
     ] {
-        let turn = four(sender, round)?;
-        tells(&rt, turn, &read, told)?;
-        let mut payload = [0; 12];
-        told.fill(&mut payload);
-        let mut own = [7; 16];
-        let mut heard = [7; 16];
-        let mut silent = [7; 16];
-        assert_eq!(rt; Telling::new(turn, &read)?.enter(&mut own), Ok(()));
-        assert_eq!(rt; enter_heard(&turn, &payload, &mut heard), Ok(()));
-        assert_eq!(rt; enter_silence(&turn, &mut silent), Ok(()));
-        for index in 0..16 {
-            let entered = indices.contains(&index);
-            let entry = if entered { read[index / 4] } else { 7 };
-            assert_eq!(rt; [own[index], heard[index]], [entry, entry]);
-            assert_eq!(rt; silent[index], if entered { 0 } else { 7 });
-        }
+        tells_and_enters(&rt, four(sender, round)?, told, indices)?;
     }
     Ok(())
+}
+
+fn tells_and_enters(
+    rt: &impl Abort,
+    turn: Turn,
+    told: &[u32],
+    indices: &[usize],
+) -> Result<(), Fail> {
+    let read = [9, 1, 2, 3, 4, 5, 6, 7, 8, 9, 10, 11, 12, 13, 14, 15];
+    tells(rt, turn, &read, told)?;
+    let mut payload = [0; 12];
+    told.fill(&mut payload);
+    let mut own = [7; 16];
+    let mut heard = [7; 16];
+    let mut silent = [7; 16];
+    answers(rt, Telling::new(turn, &read)?.enter(&mut own), Ok(()));
+    answers(rt, enter_heard(&turn, &payload, &mut heard), Ok(()));
+    answers(rt, enter_silence(&turn, &mut silent), Ok(()));
+    let wanted = entered_at(indices, &read);
+    table_is(rt, own, wanted);
+    table_is(rt, heard, wanted);
+    table_is(rt, silent, entered_at(indices, &[0; 16]));
+    Ok(())
+}
+
+// A table of sevens, with a quarter of each of these indices looked up and entered there.
+fn entered_at(indices: &[usize], read: &[u32; 16]) -> [u32; 16] {
+    let mut table = [7; 16];
+    for index in 0..16 {
+        if indices.contains(&index) {
+            table[index] = read[index / 4];
+        }
+    }
+    table
 }
 
 // What is told of the path of nodes 4 and 5, 5 standing last, is 145. The paths that end in node 0 come first. What stands
@@ -200,6 +293,17 @@ fn third_round_of_seven(rt: HostRuntime) -> Result<(), Fail> {
     let mut own = [9; 343];
     assert_eq!(rt; enter_heard(&turn, &payload, &mut written), Ok(()));
     assert_eq!(rt; Telling::new(turn, &read)?.enter(&mut own), Ok(()));
+    told_by_three(&rt, &read, &own, &written)
+}
+
+// Both tables have what node 3 tells of its paths of two nodes, and 9 elsewhere.
+fn told_by_three(
+    rt: &impl Abort,
+    read: &[u32; 343],
+    own: &[u32; 343],
+    written: &[u32; 343],
+) -> Result<(), Fail> {
+    let cluster = Cluster::new(7, 2, 0, 0)?;
     for last in 0..7 {
         for second in 0..7 {
             for first in 0..7 {
@@ -214,7 +318,7 @@ fn third_round_of_seven(rt: HostRuntime) -> Result<(), Fail> {
                 assert_eq!(rt; [own[index], written[index]], [number, number]);
                 let path = [first as u8, second as u8, last as u8];
                 if is_path {
-                    assert_eq!(rt; held_for(&turn.cluster, &written, &path), Ok(number));
+                    holds(rt, &cluster, written, &path, Ok(number));
                 }
             }
         }
@@ -237,27 +341,47 @@ fn cycle_of_sixteen(rt: HostRuntime) -> Result<(), Fail> {
         assert_eq!(rt; length, 5 + 4 * count);
         let payload = turn.read(&memory[..length])?;
         let mut written = [9; MAX_TABLE_LENGTH];
-        assert_eq!(rt; enter_heard(&turn, payload, &mut written), Ok(()));
-        let mut told = 0;
-        for row in 0..rows {
-            let nodes = [row % 16, row / 16 % 16, row / 256];
-            let path = &nodes[..place];
-            let is_told = is_path_without(path, 5);
-            let number = row as u32 + 100;
-            if is_told {
-                assert_eq!(rt; value(payload, told), Some(number));
-                assert!(rt; told < count);
-                told += 1;
-            }
-            for front in 0..16 {
-                let entry = written[16 * row + front];
-                assert_eq!(rt; entry, if is_told && front == 5 { number } else { 9 });
-            }
-        }
-        assert_eq!(rt; told, count);
+        answers(&rt, enter_heard(&turn, payload, &mut written), Ok(()));
+        assert_eq!(rt; told_of_rows(&rt, place, rows, payload, &written), count);
         assert!(rt; written[16 * rows..].iter().all(|entry| *entry == 9));
     }
     Ok(())
+}
+
+// How many of these rows are told of, in the payload and in the table.
+fn told_of_rows(
+    rt: &impl Abort,
+    place: usize,
+    rows: usize,
+    payload: &[u8],
+    written: &[u32],
+) -> usize {
+    assert!(rt; place <= 3);
+    let mut told = 0;
+    for row in 0..rows {
+        assert!(rt; row < 4096);
+        let nodes = [row % 16, row / 16 % 16, row / 256];
+        let is_told = is_path_without(&nodes[..place], 5);
+        let number = row as u32 + 100;
+        if is_told {
+            assert_eq!(rt; value(payload, told), Some(number));
+            assert!(rt; told < rows);
+            told += 1;
+        }
+        row_is(rt, written, row, if is_told { number } else { 9 });
+    }
+    told
+}
+
+// Behind each row its front is entered: this for node 5, and 9 for the others.
+fn row_is(rt: &impl Abort, written: &[u32], row: usize, entry: u32) {
+    assert!(rt; row < 4096 && written.len() == MAX_TABLE_LENGTH);
+    for front in 0..16 {
+        assert_eq!(rt;
+            written[16 * row + front],
+            if front == 5 { entry } else { 9 }
+        );
+    }
 }
 
 // Whether no node of a row stands twice, or is this one.
@@ -285,9 +409,9 @@ fn lengths_of_tables(rt: HostRuntime) -> Result<(), Fail> {
 fn values_of_new_cycles(rt: HostRuntime) -> Result<(), Fail> {
     for number in [0, 1, 0xFFFFFFFF] {
         let mut table = [7; 16];
-        begin_cycle(&Cluster::new(4, 1, 0, 0)?, &mut table, number)?;
+        begins(&rt, &mut table, number)?;
         let wanted = [number, 7, 7, 7, 7, 7, 7, 7, 7, 7, 7, 7, 7, 7, 7, 7];
-        assert_eq!(rt; table, wanted);
+        table_is(&rt, table, wanted);
     }
     Ok(())
 }
@@ -308,9 +432,13 @@ fn payloads_of_other_lengths(rt: HostRuntime) -> Result<(), Fail> {
         (20, 0x01020304, 5, 256),
     ] {
         let mut table = [7; 16];
-        assert_eq!(rt; enter_heard(&turn, &bytes[..length], &mut table), Ok(()));
+        answers(
+            &rt,
+            enter_heard(&turn, &bytes[..length], &mut table),
+            Ok(()),
+        );
         let wanted = [7, zero, 7, 7, 7, 7, 7, 7, 7, two, 7, 7, 7, three, 7, 7];
-        assert_eq!(rt; table, wanted);
+        table_is(&rt, table, wanted);
     }
     Ok(())
 }
@@ -319,6 +447,7 @@ fn payloads_of_other_lengths(rt: HostRuntime) -> Result<(), Fail> {
 #[test]
 fn what_becomes_of_frames(rt: HostRuntime) -> Result<(), Fail> {
     let turn = four(1, 3)?;
+    let stranger = four(4, 3)?;
     let frame = [1, 3, 0, 0, 0, 4, 3, 2, 1, 5, 0, 0, 0, 0, 1, 0, 0, 9];
     for (length, zero, two, three) in [(17, 0x01020304, 5, 256), (18, 0, 0, 0), (9, 0, 0, 0)] {
         let reception = turn.receive(Received {
@@ -326,17 +455,16 @@ fn what_becomes_of_frames(rt: HostRuntime) -> Result<(), Fail> {
             message: &frame[..length],
         });
         let mut table = [7; 16];
-        assert_eq!(rt; enter_reception(&turn, reception, &mut table), Ok(()));
+        answers(&rt, enter_reception(&turn, reception, &mut table), Ok(()));
         let wanted = [7, zero, 7, 7, 7, 7, 7, 7, 7, two, 7, 7, 7, three, 7, 7];
-        assert_eq!(rt; table, wanted);
+        table_is(&rt, table, wanted);
         let mut short = [7; 15];
         let answer = enter_reception(&turn, reception, &mut short);
-        assert_eq!(rt; answer, Err(SIXTEEN));
-        let stranger = four(4, 3)?;
-        let answer = enter_reception(&stranger, reception, &mut table);
-        assert_eq!(rt; answer, Err(Refusal::Node { place: 0 }));
+        answers(&rt, answer, Err(SIXTEEN));
         assert_eq!(rt; short, [7; 15]);
-        assert_eq!(rt; table, wanted);
+        let answer = enter_reception(&stranger, reception, &mut table);
+        answers(&rt, answer, Err(Refusal::Node { place: 0 }));
+        table_is(&rt, table, wanted);
     }
     Ok(())
 }
@@ -392,16 +520,19 @@ fn rounds_far_on(rt: HostRuntime) -> Result<(), Fail> {
         (10, 3, 0, FAR + 2, &[0, 9, 2], 72),
         (10, 3, 9, LARGEST, &[9, 2, 0, 8], 504),
     ] {
-        let turn = turn_of(nodes, faults, sender, round)?;
-        let length = table_length(&turn.cluster);
-        let mut memory = [7; 10_000];
-        assert!(rt; length <= 10_000);
-        let written = &mut memory[..length];
-        assert_eq!(rt; enter_silence(&turn, written), Ok(()));
-        assert_eq!(rt; held_for(&turn.cluster, written, path), Ok(0));
-        assert_eq!(rt; written.iter().filter(|entry| **entry == 0).count(), count);
+        silences(&rt, turn_of(nodes, faults, sender, round)?, path, count);
     }
     Ok(())
+}
+
+fn silences(rt: &impl Abort, turn: Turn, path: &[u8], count: usize) {
+    let length = table_length(&turn.cluster);
+    let mut memory = [7; 10_000];
+    assert!(rt; length <= 10_000);
+    let written = &mut memory[..length];
+    answers(rt, enter_silence(&turn, written), Ok(()));
+    holds(rt, &turn.cluster, written, path, Ok(0));
+    assert_eq!(rt; written.iter().filter(|entry| **entry == 0).count(), count);
 }
 
 // Each entry is its index. With 16 nodes its digits in base 16 are the nodes, the lowest that of the one that stands first.
@@ -411,47 +542,88 @@ fn held_for_rows(rt: HostRuntime) -> Result<(), Fail> {
     for index in 0..MAX_TABLE_LENGTH {
         table[index] = index as u32;
     }
-    for (nodes, faults, row, answer) in [
-        (16, 3, [0].as_slice(), Ok(0)),
-        (16, 3, &[15], Ok(0xF)),
-        (16, 3, &[1, 2], Ok(0x21)),
-        (16, 3, &[3, 2, 1], Ok(0x123)),
-        (16, 3, &[1, 2, 3, 4], Ok(0x4321)),
-        (16, 3, &[15, 14, 13, 12], Ok(0xCDEF)),
+    for (nodes, faults, row, number) in [
+        (16, 3, [0].as_slice(), 0),
+        (16, 3, &[15], 0xF),
+        (16, 3, &[1, 2], 0x21),
+        (16, 3, &[3, 2, 1], 0x123),
+        (16, 3, &[1, 2, 3, 4], 0x4321),
+        (16, 3, &[15, 14, 13, 12], 0xCDEF),
         // (3 * 7 + 2) * 7 + 1 and (1 * 7 + 2) * 7 + 3
-        (7, 2, &[1, 2, 3], Ok(162)),
-        (7, 2, &[3, 2, 1], Ok(66)),
-        (4, 1, &[0, 3], Ok(12)),
-        (4, 0, &[3], Ok(3)),
-        (4, 0, &[], of_length(0)),
-        (4, 0, &[0, 1], of_length(2)),
-        (4, 1, &[0, 1, 2], of_length(3)),
-        (16, 3, &[0, 1, 2, 3, 4], of_length(5)),
-        (4, 1, &[4], at(0)),
-        (4, 1, &[255], at(0)),
-        (4, 1, &[0, 4], at(1)),
-        (16, 3, &[16, 1, 2, 3], at(0)),
-        (16, 3, &[0, 16, 2, 3], at(1)),
-        (16, 3, &[0, 1, 16, 3], at(2)),
-        (16, 3, &[0, 1, 2, 16], at(3)),
-        (16, 3, &[1, 1, 2, 3], at(1)),
-        (16, 3, &[1, 2, 1, 3], at(2)),
-        (16, 3, &[1, 2, 2, 3], at(2)),
-        (16, 3, &[1, 2, 3, 1], at(3)),
-        (16, 3, &[1, 2, 3, 2], at(3)),
-        (16, 3, &[1, 2, 3, 3], at(3)),
-        // the first of several
-        (4, 1, &[4, 4], at(0)),
-        (16, 3, &[1, 16, 16, 1], at(1)),
-        (16, 3, &[1, 2, 2, 16], at(2)),
-        // the length and nodes
-        (4, 1, &[0, 0, 0], of_length(3)),
-        (16, 3, &[16, 16, 16, 16, 16], of_length(5)),
+        (7, 2, &[1, 2, 3], 162),
+        (7, 2, &[3, 2, 1], 66),
+        (4, 1, &[0, 3], 12),
+        (4, 0, &[3], 3),
     ] {
-        let cluster = Cluster::new(nodes, faults, 0, 0)?;
-        let length = table_length(&cluster);
-        assert!(rt; length <= MAX_TABLE_LENGTH);
-        assert_eq!(rt; held_for(&cluster, &table[..length], row), answer);
+        holds_in(&rt, &table, nodes, faults, row, Ok(number))?;
+    }
+    Ok(())
+}
+
+// What a cluster of so many nodes and faults has in the part of this table that is as long as its own.
+fn holds_in(
+    rt: &impl Abort,
+    table: &[u32; MAX_TABLE_LENGTH],
+    nodes: u64,
+    faults: u64,
+    row: &[u8],
+    wanted: Result<u32, Refusal>,
+) -> Result<(), Fail> {
+    let cluster = Cluster::new(nodes, faults, 0, 0)?;
+    let length = table_length(&cluster);
+    assert!(rt; length <= MAX_TABLE_LENGTH);
+    holds(rt, &cluster, &table[..length], row, wanted);
+    Ok(())
+}
+
+#[test]
+fn rows_of_other_lengths(rt: HostRuntime) -> Result<(), Fail> {
+    let table = [7; MAX_TABLE_LENGTH];
+    for (nodes, faults, row, length) in [
+        (4, 0, [].as_slice(), 0),
+        (4, 0, &[0, 1], 2),
+        (4, 1, &[0, 1, 2], 3),
+        (16, 3, &[0, 1, 2, 3, 4], 5),
+        // the length and nodes
+        (4, 1, &[0, 0, 0], 3),
+        (16, 3, &[16, 16, 16, 16, 16], 5),
+    ] {
+        let wanted = Err(Refusal::PathLength { length });
+        holds_in(&rt, &table, nodes, faults, row, wanted)?;
+    }
+    Ok(())
+}
+
+#[test]
+fn rows_that_are_no_paths(rt: HostRuntime) -> Result<(), Fail> {
+    let table = [7; MAX_TABLE_LENGTH];
+    for (nodes, faults, row, place) in [
+        (4, 1, [4].as_slice(), 0),
+        (4, 1, &[255], 0),
+        (4, 1, &[0, 4], 1),
+        (16, 3, &[16, 1, 2, 3], 0),
+        (16, 3, &[0, 16, 2, 3], 1),
+        (16, 3, &[0, 1, 16, 3], 2),
+        (16, 3, &[0, 1, 2, 16], 3),
+        (16, 3, &[1, 1, 2, 3], 1),
+        (16, 3, &[1, 2, 1, 3], 2),
+        (16, 3, &[1, 2, 2, 3], 2),
+        (16, 3, &[1, 2, 3, 1], 3),
+        (16, 3, &[1, 2, 3, 2], 3),
+        (16, 3, &[1, 2, 3, 3], 3),
+        // the first of several
+        (4, 1, &[4, 4], 0),
+        (16, 3, &[1, 16, 16, 1], 1),
+        (16, 3, &[1, 2, 2, 16], 2),
+    ] {
+        holds_in(
+            &rt,
+            &table,
+            nodes,
+            faults,
+            row,
+            Err(Refusal::Node { place }),
+        )?;
     }
     Ok(())
 }
@@ -459,29 +631,34 @@ fn held_for_rows(rt: HostRuntime) -> Result<(), Fail> {
 // For this turn each call refuses a table of sevens so, and leaves it as it was.
 fn refused(rt: &impl Abort, turn: Turn, table: &mut [u32], why: Refusal) {
     assert_eq!(rt; Telling::new(turn, table).err(), Some(why));
-    assert_eq!(rt; enter_heard(&turn, &[9; 12], table), Err(why));
-    assert_eq!(rt; enter_silence(&turn, table), Err(why));
+    answers(rt, enter_heard(&turn, &[9; 12], table), Err(why));
+    answers(rt, enter_silence(&turn, table), Err(why));
     assert!(rt; table.iter().all(|entry| *entry == 7));
 }
 
 // The length comes first, also where the sender is past the cluster or a row is no path.
 #[test]
 fn tables_of_another_length(rt: HostRuntime) -> Result<(), Fail> {
-    let cluster = Cluster::new(4, 1, 0, 0)?;
-    let telling = Telling::new(four(3, 7)?, &[1; 16])?;
     for length in [0, 4, 15, 17, 64] {
         let mut memory = [7; 64];
         let table = &mut memory[..length];
-        assert_eq!(rt; telling.enter(table), Err(SIXTEEN));
         for sender in [3, 4] {
             refused(&rt, four(sender, 6)?, table, SIXTEEN);
             refused(&rt, four(sender, 7)?, table, SIXTEEN);
         }
-        assert_eq!(rt; begin_cycle(&cluster, table, 5), Err(SIXTEEN));
-        for row in [[].as_slice(), &[0], &[4], &[0, 0], &[0, 1, 2]] {
-            assert_eq!(rt; held_for(&cluster, table, row), Err(SIXTEEN));
-        }
+        refused_by_all(&rt, table)?;
         assert_eq!(rt; memory, [7; 64]);
+    }
+    Ok(())
+}
+
+fn refused_by_all(rt: &impl Abort, table: &mut [u32]) -> Result<(), Fail> {
+    let cluster = Cluster::new(4, 1, 0, 0)?;
+    let telling = Telling::new(four(3, 7)?, &[1; 16])?;
+    answers(rt, telling.enter(table), Err(SIXTEEN));
+    answers(rt, begin_cycle(&cluster, table, 5), Err(SIXTEEN));
+    for row in [[].as_slice(), &[0], &[4], &[0, 0], &[0, 1, 2]] {
+        holds(rt, &cluster, table, row, Err(SIXTEEN));
     }
     Ok(())
 }
@@ -512,15 +689,26 @@ fn codes(rt: HostRuntime) {
 fn sets_of_nodes(rt: HostRuntime) {
     let some = NodeSet::empty().with(0).with(15).with(6).with(15);
     for node in 0..20 {
-        assert!(rt; !NodeSet::empty().has(node));
-        assert_eq!(rt; NodeSet::all().has(node), node < 16);
-        assert_eq!(rt; some.has(node), node == 0 || node == 6 || node == 15);
-    }
-    for node in [16, 22, 32, 64, usize::MAX] {
-        assert!(rt; !NodeSet::all().has(node) && !some.has(node));
-        assert_eq!(rt; NodeSet::empty().with(node), NodeSet::empty());
-        assert_eq!(rt; some.with(node), some);
+        let has = [
+            NodeSet::empty().has(node),
+            NodeSet::all().has(node),
+            some.has(node),
+        ];
+        assert_eq!(rt;
+            has,
+            [false, node < 16, node == 0 || node == 6 || node == 15]
+        );
     }
     assert_eq!(rt; NodeSet::all().with(4), NodeSet::all());
     assert_eq!(rt; some, NodeSet::empty().with(6).with(15).with(0));
+}
+
+#[test]
+fn nodes_past_all(rt: HostRuntime) {
+    let some = NodeSet::empty().with(0).with(15).with(6).with(15);
+    for node in [16, 22, 32, 64, usize::MAX] {
+        assert!(rt; !NodeSet::all().has(node) && !some.has(node));
+        let sets = [NodeSet::empty().with(node), some.with(node)];
+        assert_eq!(rt; sets, [NodeSet::empty(), some]);
+    }
 }
