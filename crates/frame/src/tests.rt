@@ -33,15 +33,25 @@ fn of_length(length: usize) -> Refusal {
     Refusal::Length { length }
 }
 
+// What is written is as long as this, or refused so. To compare in a function of its own takes less to prove.
+fn writes(rt: &impl Abort, written: Result<usize, Refusal>, wanted: Result<usize, Refusal>) {
+    assert_eq!(rt; written, wanted);
+}
+
+// This is what a payload has at an index.
+fn value_is(rt: &impl Abort, payload: &[u8], index: usize, wanted: Option<u32>) {
+    assert_eq!(rt; value(payload, index), wanted);
+}
+
 // In this turn a frame of these values has these bytes, and from these bytes the values are read.
 fn says(rt: &impl Abort, turn: Turn, values: &[u32], bytes: &[u8]) -> Result<(), Fail> {
     let mut memory = [0xEE; 29];
-    assert_eq!(rt; turn.write(values, &mut memory), Ok(bytes.len()));
+    writes(rt, turn.write(values, &mut memory), Ok(bytes.len()));
     assert!(rt; memory.starts_with(bytes));
     assert!(rt; bytes.starts_with(&turn.header()));
     let payload = turn.read(bytes)?;
     for index in 0..=values.len() {
-        assert_eq!(rt; value(payload, index), values.get(index).copied());
+        value_is(rt, payload, index, values.get(index).copied());
     }
     Ok(())
 }
@@ -133,8 +143,7 @@ fn lengths(rt: HostRuntime) -> Result<(), Fail> {
     ] {
         let turn = turn_of(nodes, faults, 0, round)?;
         assert_eq!(rt; turn.place_in_cycle(), place);
-        assert_eq!(rt; turn.value_count(), count);
-        assert_eq!(rt; turn.frame_length(), length);
+        assert_eq!(rt; [turn.value_count(), turn.frame_length()], [count, length]);
     }
     Ok(())
 }
@@ -289,7 +298,7 @@ fn memory_too_short(rt: HostRuntime) -> Result<(), Fail> {
     for length in 0..17 {
         let mut memory = [0xEE; 17];
         let answer = four(3, 5)?.write(values, &mut memory[..length]);
-        assert_eq!(rt; answer, Err(of_length(length)));
+        writes(&rt, answer, Err(of_length(length)));
         assert_eq!(rt; memory, [0xEE; 17]);
     }
     Ok(())
@@ -308,11 +317,12 @@ fn memory_long_enough(rt: HostRuntime) -> Result<(), Fail> {
         (&[1, 2], two),
         (&[], none),
     ] {
+        let turn = four(3, 5)?;
         let mut exact = [0xEE; 17];
-        assert_eq!(rt; four(3, 5)?.write(values, &mut exact), Ok(17));
+        writes(&rt, turn.write(values, &mut exact), Ok(17));
         assert_eq!(rt; exact, frame);
         let mut longer = [0xEE; 24];
-        assert_eq!(rt; four(3, 5)?.write(values, &mut longer), Ok(17));
+        writes(&rt, turn.write(values, &mut longer), Ok(17));
         assert!(rt; longer.starts_with(&frame));
         assert!(rt; longer.ends_with(&[0xEE; 7]));
     }
@@ -332,7 +342,7 @@ fn values_put(rt: HostRuntime) {
         let mut payload = [9; 11];
         assert!(rt; put_value(&mut payload, index, number));
         assert_eq!(rt; payload, after);
-        assert_eq!(rt; value(&payload, index), Some(number));
+        value_is(&rt, &payload, index, Some(number));
     }
 }
 
@@ -343,7 +353,7 @@ fn past_the_last_value(rt: HostRuntime) {
         for index in [length / 4, length, 1 << 62, usize::MAX] {
             let mut row = [9; 11];
             let payload = &mut row[..length];
-            assert_eq!(rt; value(payload, index), None);
+            value_is(&rt, payload, index, None);
             assert!(rt; !put_value(payload, index, 5));
             assert_eq!(rt; row, [9; 11]);
         }
@@ -381,12 +391,10 @@ fn longest_frame(rt: HostRuntime) -> Result<(), Fail> {
         values[index] = index as u32 * 1_000_000 + 1;
     }
     let mut memory = [0xEE; 10_925];
-    assert_eq!(rt;
-        turn.write(values.as_slice(), &mut memory[..10_924]),
-        Err(of_length(10_924))
-    );
+    let answer = turn.write(values.as_slice(), &mut memory[..10_924]);
+    writes(&rt, answer, Err(of_length(10_924)));
     assert!(rt; memory == [0xEE; 10_925]);
-    assert_eq!(rt; turn.write(values.as_slice(), &mut memory), Ok(10_925));
+    writes(&rt, turn.write(values.as_slice(), &mut memory), Ok(10_925));
     let payload = turn.read(&memory)?;
     for (index, number) in [
         (0, Some(1)),
@@ -395,7 +403,7 @@ fn longest_frame(rt: HostRuntime) -> Result<(), Fail> {
         (2729, Some(2_729_000_001)),
         (2730, None),
     ] {
-        assert_eq!(rt; value(payload, index), number);
+        value_is(&rt, payload, index, number);
     }
     Ok(())
 }
