@@ -21,16 +21,29 @@ fn taken(rt: &impl Abort, cluster: Cluster, cases: &[([u64; 4], Option<Unfit>)])
     }
 }
 
+// To compare in a function of its own takes less to prove, here and below.
+fn heard_is(rt: &impl Abort, heard: Option<Received<u8>>, wanted: Option<Received<u8>>) {
+    assert_eq!(rt; heard, wanted);
+}
+
+fn answers(rt: &impl Abort, answer: Result<(), Refusal>, wanted: Result<(), Refusal>) {
+    assert_eq!(rt; answer, wanted);
+}
+
+fn number_is(rt: &impl Abort, number: u64, wanted: u64) {
+    assert_eq!(rt; number, wanted);
+}
+
 // A schedule has the times that it was made of, here each longer than it has to be.
 #[test]
 fn times_are_kept(rt: HostRuntime) -> Result<(), Fail> {
     let cluster = Cluster::new(7, 2, 5, 10)?;
     let schedule = Schedule::new(cluster, 500, 140, 201, 9)?;
     assert_eq!(rt; schedule.cluster, cluster);
-    assert_eq!(rt; schedule.length, 500);
-    assert_eq!(rt; schedule.pause, 140);
-    assert_eq!(rt; schedule.message, 201);
-    assert_eq!(rt; schedule.wire, 9);
+    number_is(&rt, schedule.length, 500);
+    number_is(&rt, schedule.pause, 140);
+    number_is(&rt, schedule.message, 201);
+    number_is(&rt, schedule.wire, 9);
     Ok(())
 }
 
@@ -145,12 +158,12 @@ fn owners_and_rounds(rt: HostRuntime) -> Result<(), Fail> {
         (LARGEST, last, 1),
     ] {
         assert_eq!(rt; schedule.owner(slot), node);
-        assert_eq!(rt; schedule.round(slot), round);
-        assert_eq!(rt; schedule.slot(round, node), slot);
+        number_is(&rt, schedule.round(slot), round);
+        number_is(&rt, schedule.slot(round, node), slot);
     }
-    assert_eq!(rt; schedule.slot(last, 2), LARGEST);
-    assert_eq!(rt; schedule.slot(LARGEST, 0), LARGEST);
-    assert_eq!(rt; schedule.slot(0, 16), 16);
+    number_is(&rt, schedule.slot(last, 2), LARGEST);
+    number_is(&rt, schedule.slot(LARGEST, 0), LARGEST);
+    number_is(&rt, schedule.slot(0, 16), 16);
     Ok(())
 }
 
@@ -167,8 +180,8 @@ fn times(rt: HostRuntime) -> Result<(), Fail> {
         (40_364_866_682_077_794, LARGEST, LARGEST),
         (LARGEST, LARGEST, LARGEST),
     ] {
-        assert_eq!(rt; schedule.send_time(slot), sends);
-        assert_eq!(rt; schedule.slot_end(slot), ends);
+        number_is(&rt, schedule.send_time(slot), sends);
+        number_is(&rt, schedule.slot_end(slot), ends);
     }
     for (round, ends) in [
         (0, 3199),
@@ -177,7 +190,7 @@ fn times(rt: HostRuntime) -> Result<(), Fail> {
         (5_766_409_526_011_113, LARGEST),
         (LARGEST, LARGEST),
     ] {
-        assert_eq!(rt; schedule.round_end(round), ends);
+        number_is(&rt, schedule.round_end(round), ends);
     }
     Ok(())
 }
@@ -220,8 +233,8 @@ fn hears(rt: &impl Abort, cases: &[(&[Arrival<u8>], Option<Received<u8>>)]) -> R
         for arrival in *arrivals {
             listener = listener.tell(*arrival).listener;
         }
-        assert_eq!(rt; listener.heard(), *expected);
-        assert_eq!(rt; schedule.hear(8, 0, *arrivals), *expected);
+        heard_is(rt, listener.heard(), *expected);
+        heard_is(rt, schedule.hear(8, 0, *arrivals), *expected);
     }
     Ok(())
 }
@@ -258,8 +271,8 @@ fn one_message(rt: HostRuntime) -> Result<(), Fail> {
 #[test]
 fn ends_of_the_width(rt: HostRuntime) -> Result<(), Fail> {
     let schedule = seven()?;
-    assert_eq!(rt; schedule.send_time(8), 3793);
-    assert_eq!(rt; schedule.send_time(9), 4138 + 112);
+    number_is(&rt, schedule.send_time(8), 3793);
+    number_is(&rt, schedule.send_time(9), 4138 + 112);
     for (slot, arrival, expected) in [
         (8, on(1, 3913, 4113, 5), one(-120, 5)),
         (9, on(2, 4138, 4338, 6), one(112, 6)),
@@ -269,7 +282,7 @@ fn ends_of_the_width(rt: HostRuntime) -> Result<(), Fail> {
         (9, on(2, 4113, 4313, 6), one(137, 6)),
         (9, on(2, 4112, 4312, 6), None),
     ] {
-        assert_eq!(rt; schedule.hear(slot, 3656, &[arrival]), expected);
+        heard_is(&rt, schedule.hear(slot, 3656, &[arrival]), expected);
     }
     Ok(())
 }
@@ -320,8 +333,8 @@ fn other_wires(rt: HostRuntime) -> Result<(), Fail> {
 fn arrivals_refused(rt: HostRuntime) -> Result<(), Fail> {
     let start = Listener::new(seven()?, 8, 3700);
     let told = start.tell(on(1, 3660, 3700, 5));
-    assert_eq!(rt; told.answer, Ok(()));
-    assert_eq!(rt; told.listener.heard(), one(133, 5));
+    answers(&rt, told.answer, Ok(()));
+    heard_is(&rt, told.listener.heard(), one(133, 5));
     for (listener, arrival, why) in [
         (start, on(1, 3800, 3799, 5), Refusal::EndsBeforeItBegan),
         (start, on(1, 3690, 3699, 5), Refusal::Earlier),
@@ -330,7 +343,7 @@ fn arrivals_refused(rt: HostRuntime) -> Result<(), Fail> {
         (told.listener, on(1, 3660, 3699, 6), Refusal::Earlier),
     ] {
         let again = listener.tell(arrival);
-        assert_eq!(rt; again.answer, Err(why));
+        answers(&rt, again.answer, Err(why));
         assert_eq!(rt; again.listener, listener);
     }
     Ok(())
@@ -362,18 +375,18 @@ fn goes_on_after_a_refusal(rt: HostRuntime) -> Result<(), Fail> {
 fn seen_all_along(rt: HostRuntime) -> Result<(), Fail> {
     let start = Listener::new(seven()?, 8, 3656);
     let late = start.tell(on(1, 4100, 4114, 5));
-    assert_eq!(rt; late.answer, Ok(()));
+    answers(&rt, late.answer, Ok(()));
     let again = late.listener.tell(on(1, 3700, 4113, 5));
-    assert_eq!(rt; again.answer, Err(Refusal::Earlier));
+    answers(&rt, again.answer, Err(Refusal::Earlier));
     let twice = start
         .tell(on(1, 3700, 3750, 5))
         .listener
         .tell(on(1, 3800, 3850, 6));
     let third = twice.listener.tell(on(1, 3900, 3950, 7));
-    assert_eq!(rt; third.answer, Ok(()));
+    answers(&rt, third.answer, Ok(()));
     let back = third.listener.tell(on(1, 3900, 3949, 8));
-    assert_eq!(rt; back.answer, Err(Refusal::Earlier));
-    assert_eq!(rt; back.listener.heard(), None);
+    answers(&rt, back.answer, Err(Refusal::Earlier));
+    heard_is(&rt, back.listener.heard(), None);
     Ok(())
 }
 
@@ -382,8 +395,8 @@ fn seen_all_along(rt: HostRuntime) -> Result<(), Fail> {
 fn hears_from_a_time(rt: HostRuntime) -> Result<(), Fail> {
     let schedule = seven()?;
     let first = [on(1, 3700, 3750, 5)];
-    assert_eq!(rt; schedule.hear(8, 3750, &first), one(93, 5));
-    assert_eq!(rt; schedule.hear(8, 3751, &first), None);
+    heard_is(&rt, schedule.hear(8, 3750, &first), one(93, 5));
+    heard_is(&rt, schedule.hear(8, 3751, &first), None);
     Ok(())
 }
 
@@ -392,7 +405,7 @@ fn hears_from_a_time(rt: HostRuntime) -> Result<(), Fail> {
 fn many_arrivals(rt: HostRuntime) -> Result<(), Fail> {
     let mut arrivals = [on(0, 3700, 3750, 5); 33];
     arrivals[32] = on(1, 3793, 3993, 6);
-    assert_eq!(rt; seven()?.hear(8, 0, &arrivals), one(0, 6));
+    heard_is(&rt, seven()?.hear(8, 0, &arrivals), one(0, 6));
     Ok(())
 }
 
@@ -408,14 +421,12 @@ fn last_slots(rt: HostRuntime) -> Result<(), Fail> {
         (LARGEST, on(1, LARGEST, LARGEST, 5), None),
         (LARGEST, on(1, 0, 100, 5), None),
     ] {
-        assert_eq!(rt; schedule.hear(slot, 0, &[arrival]), expected);
+        heard_is(&rt, schedule.hear(slot, 0, &[arrival]), expected);
     }
     // a slot that starts 43 ticks before the end, so that its message is due behind it
     let longer = Schedule::new(Cluster::new(7, 2, 5, 10)?, 458, 137, 200, 8)?;
     let slot = 40_276_733_785_392_034;
-    assert_eq!(rt;
-        longer.hear(slot, 0, &[on(0, LARGEST, LARGEST, 5)]),
-        one(94, 5)
-    );
+    let heard = longer.hear(slot, 0, &[on(0, LARGEST, LARGEST, 5)]);
+    heard_is(&rt, heard, one(94, 5));
     Ok(())
 }
