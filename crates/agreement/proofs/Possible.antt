@@ -18,10 +18,13 @@ use Rattle.std.proofs.lemmas.List.Elements.{All-head, All-tail}
 use Rattle.relay.proofs.Relaying.{same_for, round_is_whole}
 use Rattle.relay.proofs.Turns.{place_of, indices_of, indices_below, entry_within}
 use Rattle.agreement.specs.Cycles.{Cycle}
-use Rattle.agreement.specs.Theorems.{CycleCanBeRun, Small}
+use Rattle.agreement.specs.Theorems.{CycleCanBeRun}
 use Rattle.agreement.proofs.Cycles.{in_order, stands_among}
 
 -- numbers below 2^32: in a list that a function gives, and in one with another entry
+abbrev Small : List ℕ → Type 0
+Small table = (index : ℕ) → slice_index table index < 2 ^ 32
+
 map_small : {X : Type 0} (f : X → ℕ) (xs : List X) (d : X) → ((x : X) → f x < 2 ^ 32) → Small (map f xs)
 map_small f xs d small i =
     elim (cases_lt i (length xs)) [

@@ -21,12 +21,11 @@ unfoldable pub made_of_path : ℕ → ℕ → (List ℕ → ℕ) → List ℕ �
 made_of_path n zero held path = held path
 made_of_path n (suc left) held path = majority (map (λ node. made_of_path n left held (node ∷ path)) (nodes_off n path))
 
--- what it makes of a path by its table when the cycle is over, which has one telling more than faults are allowed
+-- What it makes of a path by its table as a cycle is over. A cycle has one telling more than faults are allowed, and a path has had one for each of its nodes.
 abbrev pub made_of : Cluster → List ℕ → List ℕ → ℕ
 made_of c table path = made_of_path c.nodes (c.faults + 1 - length path) (held_for c table) path
 
--- Its result for a node, of a cluster of n that allows so many faults, is what it makes of the path of this node alone, which has been told once; a cycle has one
--- telling more than faults are allowed.
+-- Its result for a node, in a cluster of n that allows so many faults, is what it makes of the path of this node alone, which has had one telling: so many are left.
 abbrev pub result_for : ℕ → ℕ → (List ℕ → ℕ) → ℕ → ℕ
 result_for n faults held node = made_of_path n faults held (node ∷ [])
 

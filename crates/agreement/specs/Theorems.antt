@@ -13,7 +13,7 @@ use Rattle.agreement.specs.Results.{nodes_off, made_of, result_for, results_of}
 use Rattle.agreement.specs.Holdings.{Tells, Agrees, holding}
 use Rattle.agreement.specs.Cycles.{Cycle}
 
--- If more than half of a list are one value, the majority is this value; if there is no such value, it is 0.
+-- If more than half of a list have one value, the majority is this value; if there is no such value, it is 0.
 pub record IsMajority (values : List ℕ) : Type 0 where
   pub most : (value : ℕ) → length values < 2 * times value values → majority values ≡ value
   pub none : ((value : ℕ) → 2 * times value values ≤ length values) → majority values ≡ 0
@@ -52,9 +52,6 @@ AnythingCanBeTold =
     (n faults : ℕ) (good : ℕ → Bool) (value : ℕ → ℕ) (lies : ℕ → ℕ → List ℕ → ℕ) → Tells n faults good (holding good value lies)
 
 -- And so by tables: there is such a cycle. Its tables are as long as the cluster needs, and hold numbers below 2^32 if the values and the lies are such.
-abbrev pub Small : List ℕ → Type 0
-Small table = (index : ℕ) → slice_index table index < 2 ^ 32
-
 pub record CycleWith (c : Cluster) (good : ℕ → Bool) (value : ℕ → ℕ) (first : ℕ) (lies : ℕ → ℕ → List ℕ → ℕ) : Type 0 where
   pub tables : ℕ → ℕ → List ℕ
   pub cycle : Cycle c good value first tables
@@ -62,14 +59,14 @@ pub record CycleWith (c : Cluster) (good : ℕ → Bool) (value : ℕ → ℕ) (
   pub lied :
       (k p q : ℕ) → k ≤ c.faults → q < c.nodes → good q ≡ false → (path : List ℕ) → IsTold (turn_in c (first + k) q) path →
       held_for c (tables (suc k) p) (q ∷ path) ≡ lies p q path
-  pub small : ((p : ℕ) → value p < 2 ^ 32) → ((p q : ℕ) (path : List ℕ) → lies p q path < 2 ^ 32) → (k p : ℕ) → Small (tables k p)
+  pub small : ((p : ℕ) → value p < 2 ^ 32) → ((p q : ℕ) (path : List ℕ) → lies p q path < 2 ^ 32) → (k p index : ℕ) → slice_index (tables k p) index < 2 ^ 32
 
 abbrev pub CycleCanBeRun : Type 0
 CycleCanBeRun =
     (c : Cluster) (good : ℕ → Bool) (value : ℕ → ℕ) (first : ℕ) (lies : ℕ → ℕ → List ℕ → ℕ) → place_in_cycle c first ≡ 0 → CycleWith c good value first lies
 
 -- Three times the faults are too few nodes. Of three nodes, one of which may be faulty, nodes 0 and 1 give 5 and 6; node 2 tells node 0 always 5, and node 1 always 9. Then
--- nodes 0 and 1 do not agree on node 0, and what node 1 comes to is not the value that node 0 gave. With all else that `Agreed` asks.
+-- nodes 0 and 1 do not agree on node 0, and what node 1 comes to is not the value that node 0 gave, though all else holds that `Agreed` asks.
 abbrev pub but : ℕ → ℕ → Bool
 but liar node = not (node == liar)
 
