@@ -5,7 +5,7 @@ ghost use Rattle.agreement.specs.declared.refusal.Refusal.TheVariants.{Table};
 
 use midpoint::Code;
 
-/// Why no results are given. Where both apply it is the first.
+/// Why no results are given. Where both reasons apply it is the table.
 #[derive(Clone, Copy, PartialEq, Eq, Debug)]
 pub enum Refusal {
     /// The table is turned away, for this reason.
