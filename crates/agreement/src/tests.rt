@@ -1,5 +1,6 @@
-//! Examples of the rules and the edges of every refusal. The expected values are worked out by hand, or from the rule by a
-//! program that stands elsewhere. In the cycles that are played the good nodes are the first ones of the cluster.
+//! Examples of the rules and the edges of every refusal. The expected values are worked out by hand; those of tables that are
+//! filled by a formula by a separate program that follows the rules. In the cycles that are played the good nodes are the
+//! first ones of the cluster.
 use crate::making::{made_of, results};
 use crate::most::majority;
 use crate::refusal::Refusal;
@@ -16,10 +17,10 @@ use std::test::Fail;
 // 2^32 - 1.
 const LARGEST: u32 = 4_294_967_295;
 
-// The majorities of lists.
-fn are(rt: &impl Abort, cases: &[(&[u32], u32)]) {
+// Each list has this majority.
+fn have(rt: &impl Abort, cases: &[(&[u32], u32)]) {
     for (values, most) in cases {
-        assert_eq!(rt; majority(values), *most, "{values:?}");
+        assert_eq!(rt; majority(values), *most);
     }
 }
 
@@ -34,19 +35,19 @@ fn majorities(rt: HostRuntime) {
         (&[7, 0], 0),
         (&[0, 7], 0),
         (&[0, 0], 0),
-        // two against one
+        // two are more than half of three
         (&[7, 7, 8], 7),
         (&[7, 8, 7], 7),
         (&[8, 7, 7], 7),
         (&[7, 7, 0], 7),
         (&[7, 0, 0], 0),
         (&[7, 8, 9], 0),
-        // half are not enough
+        // half is not enough
         (&[7, 8, 7, 8], 0),
         (&[7, 7, 0, 0], 0),
         (&[0, 7, 0, 7], 0),
         (&[8, 9, 7, 7], 0),
-        // nor is it that no other has as many
+        // and it is not enough to be the most frequent
         (&[1, 1, 2, 3], 0),
         (&[1, 1, 1, 2, 3, 4], 0),
         (&[7, 7, 7, 0, 0], 7),
@@ -55,11 +56,11 @@ fn majorities(rt: HostRuntime) {
         (&[LARGEST, 1, LARGEST], LARGEST),
         (&[LARGEST, LARGEST, 0x7FFFFFFF, 0xFFFF], 0),
     ];
-    are(&rt, &cases);
+    have(&rt, &cases);
 }
 
-// Makes so many of a list's values 7: the first ones, the last ones, or some all over it. The others are `other`, or else all
-// different.
+// Makes so many values of a list 7: the first ones, the last ones, or some all over it. The rest are all `other`, or all
+// different if there is none.
 fn arrange(
     rt: &impl Abort,
     values: &mut [u32],
@@ -83,16 +84,17 @@ fn arrange(
     }
 }
 
-// The majority is 7 if there are more sevens than others; else `other`, if there are more of those, and 0 if these differ.
-fn counts(rt: &impl Abort, values: &mut [u32], count: usize) {
+// With so many sevens the majority is 7 if they are more than the rest. If they are fewer it is what the rest are, or 0 if
+// these are all different.
+fn with_sevens(rt: &impl Abort, values: &mut [u32], count: usize) {
     assert!(rt; count <= values.len());
-    let others = values.len() - count;
+    let rest = values.len() - count;
     for other in [None, Some(0), Some(8), Some(LARGEST)] {
         for arrangement in 0..3 {
             arrange(rt, values, count, arrangement, other);
-            let most = if count > others {
+            let most = if count > rest {
                 7
-            } else if count < others {
+            } else if count < rest {
                 other.unwrap_or(0)
             } else {
                 0
@@ -106,15 +108,24 @@ fn counts(rt: &impl Abort, values: &mut [u32], count: usize) {
 fn sevens_among_others(rt: HostRuntime) {
     for length in 1..16 {
         for count in 1..=length {
-            counts(&rt, &mut [0; 15][..length], count);
+            with_sevens(&rt, &mut [0; 15][..length], count);
         }
     }
     for count in [1, 499, 500, 501, 999] {
-        counts(&rt, &mut [0; 1000], count);
+        with_sevens(&rt, &mut [0; 1000], count);
     }
     for count in [499, 500] {
-        counts(&rt, &mut [0; 999], count);
+        with_sevens(&rt, &mut [0; 999], count);
     }
+}
+
+// What is made of a path, or held for it, is this. To compare in a function of its own takes less to prove.
+fn made_is(
+    rt: &impl Abort,
+    made: Result<u32, relay::Refusal>,
+    wanted: Result<u32, relay::Refusal>,
+) {
+    assert_eq!(rt; made, wanted);
 }
 
 // By this table the results are these, and so is what is made of the path of each node alone.
@@ -125,12 +136,12 @@ fn comes_to(rt: &impl Abort, cluster: &Cluster, table: &[u32], wanted: &[u32]) {
     assert_eq!(rt; results(cluster, table, places), Ok(()));
     assert_eq!(rt; &*places, wanted);
     for node in 0..wanted.len() {
-        assert_eq!(rt; made_of(cluster, table, &[node as u8]), Ok(wanted[node]));
+        made_is(rt, made_of(cluster, table, &[node as u8]), Ok(wanted[node]));
     }
 }
 
-// What a good node enters in a turn. A good sender tells from its table. A faulty one tells the node these numbers, in the order
-// of the paths, and 0 for the paths that are left; it is silent if there are none.
+// What a good node enters in a turn. A good sender writes its frame from the table that it reads. A faulty one tells the node
+// these numbers, in the order of the paths, and 0 for the paths that are left; if there are none it is silent.
 fn hears(
     turn: Turn,
     read: &[Vec<u32>],
@@ -158,8 +169,8 @@ fn hears(
     Ok(())
 }
 
-// The tables of the good nodes, which give these values, after some rounds of a cycle: for each round `lies` has what the faulty
-// nodes tell each good one. An entry that nobody writes is 77.
+// The tables of the good nodes, which give these values, after some rounds of a cycle: for each round `lies` has the numbers
+// that each faulty node tells each good one. An entry that nobody writes is 77.
 fn rounds_over(
     heap: Global,
     cluster: Cluster,
@@ -191,7 +202,7 @@ fn rounds_over(
     Ok(read)
 }
 
-// When a cycle with these lies is over all good nodes come to these results, the first of which are the values that they give.
+// When a cycle with these lies is over all good nodes come to these results, of which the first are the values that they give.
 fn all_come_to(
     rt: &impl Abort,
     heap: Global,
@@ -200,76 +211,102 @@ fn all_come_to(
     wanted: &[u32],
 ) -> Result<(), Fail> {
     let good = (cluster.nodes() - cluster.faults()) as usize;
-    assert!(rt; good <= wanted.len());
-    for table in rounds_over(heap, cluster, &wanted[..good], lies)?.iter() {
+    assert!(rt; good <= wanted.len() && lies.len() as u64 == cluster.faults() + 1);
+    let tables = rounds_over(heap, cluster, &wanted[..good], lies)?;
+    assert_eq!(rt; tables.len(), good);
+    for table in tables.iter() {
         comes_to(rt, &cluster, table, wanted);
     }
     Ok(())
 }
 
-// Node 3 tells each of the others a number or nothing, and in the second round that it heard 9 of each. What all come to is what
-// it told more than one of them, or 0.
+// Node 3 tells each of the others one number, and in the second round that it heard 9 of each. What all come to is what it
+// told more than one of them, or 0.
 #[test]
 fn liar_of_four(rt: HostRuntime) -> Result<(), Fail> {
     let cluster = Cluster::new(4, 1, 0, 0)?;
-    let nines = [[9, 9, 9].as_slice(), &[9, 9, 9], &[9, 9, 9]];
     for (told, number) in [
-        ([[1].as_slice(), &[2], &[1]], 1),
-        ([&[1], &[2], &[3]], 0),
-        ([&[4], &[4], &[4]], 4),
-        ([&[], &[8], &[8]], 8),
-        ([&[8], &[], &[]], 0),
-        ([&[], &[], &[]], 0),
+        ([1, 2, 1], 1),
+        ([1, 2, 3], 0),
+        ([4, 4, 4], 4),
+        ([0, 0, 3], 0),
+        ([6, 5, 6], 6),
     ] {
+        let first = [&told[..1], &told[1..2], &told[2..]];
+        let second = [[9, 9, 9].as_slice(); 3];
         let wanted = [5, 6, 7, number];
-        all_come_to(&rt, rt.alloc(), cluster, &[&told, &nines], &wanted)?;
+        all_come_to(&rt, rt.alloc(), cluster, &[&first, &second], &wanted)?;
     }
     Ok(())
 }
 
-// After the first round of the first of these cycles node 1 holds another number for node 3 than it comes to in the end.
+// The same where it tells some of them nothing in the first round, or nothing at all.
+#[test]
+fn silent_liar_of_four(rt: HostRuntime) -> Result<(), Fail> {
+    let cluster = Cluster::new(4, 1, 0, 0)?;
+    let to_two: &[&[u32]] = &[&[], &[8], &[8]];
+    let to_one: &[&[u32]] = &[&[8], &[], &[]];
+    let to_none: &[&[u32]] = &[&[], &[], &[]];
+    let nines: &[&[u32]] = &[&[9, 9, 9], &[9, 9, 9], &[9, 9, 9]];
+    for (lies, number) in [
+        ([to_two, nines], 8),
+        ([to_one, nines], 0),
+        ([to_none, nines], 0),
+        ([to_none, to_none], 0),
+    ] {
+        all_come_to(&rt, rt.alloc(), cluster, &lies, &[5, 6, 7, number])?;
+    }
+    Ok(())
+}
+
+// A result need not be what a node was told first: after the first round node 1 holds 2 for node 3, and in the end it comes
+// to 1.
 #[test]
 fn first_round_of_four(rt: HostRuntime) -> Result<(), Fail> {
     let cluster = Cluster::new(4, 1, 0, 0)?;
-    let told = [[1].as_slice(), &[2], &[1]];
-    let tables = rounds_over(rt.alloc(), cluster, &[5, 6, 7], &[&told])?;
-    assert_eq!(rt; tables.len(), 3);
-    for node in 0..3 {
-        for (sender, number) in [(0, 5), (1, 6), (2, 7), (3, [1, 2, 1][node])] {
-            assert_eq!(rt; held_for(&cluster, &tables[node], &[sender]), Ok(number));
-        }
+    let first: &[&[u32]] = &[&[1], &[2], &[1]];
+    let second: &[&[u32]] = &[&[9, 9, 9], &[9, 9, 9], &[9, 9, 9]];
+    let tables = rounds_over(rt.alloc(), cluster, &[5, 6, 7], &[first])?;
+    for (node, table) in tables.iter().enumerate() {
+        made_is(
+            &rt,
+            held_for(&cluster, table, &[3]),
+            Ok([1, 2, 1][node % 3]),
+        );
     }
+    all_come_to(&rt, rt.alloc(), cluster, &[first, second], &[5, 6, 7, 1])?;
     Ok(())
 }
 
-// One number for each path of the longest frame, or another.
+// One number for all paths, also those of the longest frame.
 const ONES: &[u32] = &[1; 2730];
 
 const TWOS: &[u32] = &[2; 2730];
 
-// Nodes 5 and 6 tell three nodes 1 for all paths, and two nodes 2, or the other way round. Of the six numbers for node 5 three are
-// what it told the three, two what it told the two, and one is what all make of what 6 told of it: that is what 6 told the three
-// in the second round, in which the other liar comes last.
+// Nodes 5 and 6 tell three nodes 1 for all paths and two nodes 2, or the other way round. Of the six numbers that are made
+// for node 5 three are what it told the three, two are what it told the two, and one comes from what 6 told of it: what it
+// told the three in the second round. In `backed` they also lie of the good nodes, and back each other: of the other liar,
+// who stands last in the frame, they tell three nodes 1.
 #[test]
 fn two_liars_of_seven(rt: HostRuntime) -> Result<(), Fail> {
-    const ONE: &[&[u32]] = &[ONES, ONES, ONES, TWOS, TWOS];
-    const OTHER: &[&[u32]] = &[TWOS, TWOS, TWOS, ONES, ONES];
-    const BACKED: &[&[u32]] = &[
+    let cluster = Cluster::new(7, 2, 0, 0)?;
+    let one: &[&[u32]] = &[ONES, ONES, ONES, TWOS, TWOS];
+    let other: &[&[u32]] = &[TWOS, TWOS, TWOS, ONES, ONES];
+    let backed: &[&[u32]] = &[
         &[8, 8, 8, 8, 8, 1],
         &[8, 8, 8, 8, 8, 1],
         &[9, 9, 9, 9, 9, 1],
         &[9, 9, 9, 9, 9, 2],
         &[],
     ];
-    let cluster = Cluster::new(7, 2, 0, 0)?;
     for (lies, number) in [
-        ([ONE, ONE, ONE], 1),
-        ([ONE, ONE, OTHER], 1),
-        ([ONE, BACKED, OTHER], 1),
-        ([ONE, OTHER, ONE], 0),
-        ([OTHER, ONE, OTHER], 0),
-        ([OTHER, BACKED, OTHER], 0),
-        ([OTHER, OTHER, OTHER], 2),
+        ([one, one, one], 1),
+        ([one, one, other], 1),
+        ([one, backed, other], 1),
+        ([one, other, one], 0),
+        ([other, one, other], 0),
+        ([other, backed, other], 0),
+        ([other, other, other], 2),
     ] {
         let wanted = [10, 11, 12, 13, 14, number, number];
         all_come_to(&rt, rt.alloc(), cluster, &lies, &wanted)?;
@@ -277,32 +314,41 @@ fn two_liars_of_seven(rt: HostRuntime) -> Result<(), Fail> {
     Ok(())
 }
 
-// Nodes 13, 14 and 15 tell seven nodes 1 for all paths, and six nodes 2, or the other way round. Of the fifteen numbers for node 13
-// two are what all make of what 14 and 15 told of it: there, of fourteen numbers, seven and six are what 14 told in the second
-// round, and one is what 15 told the seven in the third.
+// Nodes 13, 14 and 15 tell seven nodes 1 for all paths and six nodes 2, or the other way round. Of the fifteen numbers that
+// are made for node 13 seven are what it told the seven, six are what it told the six, and two come from what 14 and 15
+// told of it: that of 14 is the majority of what 14 told the seven and the six in the second round, and of what 15 told the
+// seven in the third. In `mixed` they tell different numbers of the two other liars, who stand last in the frame.
 #[test]
 fn three_liars_of_sixteen(rt: HostRuntime) -> Result<(), Fail> {
-    const ONE: &[&[u32]] = &[
+    const ONE_TWO: &[u32] = &[9, 9, 9, 9, 9, 9, 9, 9, 9, 9, 9, 9, 9, 1, 2];
+    const TWO_ONE: &[u32] = &[9, 9, 9, 9, 9, 9, 9, 9, 9, 9, 9, 9, 9, 2, 1];
+    let cluster = Cluster::new(16, 3, 0, 0)?;
+    let one: &[&[u32]] = &[
         ONES, ONES, ONES, ONES, ONES, ONES, ONES, TWOS, TWOS, TWOS, TWOS, TWOS, TWOS,
     ];
-    const OTHER: &[&[u32]] = &[
+    let other: &[&[u32]] = &[
         TWOS, TWOS, TWOS, TWOS, TWOS, TWOS, TWOS, ONES, ONES, ONES, ONES, ONES, ONES,
     ];
-    let cluster = Cluster::new(16, 3, 0, 0)?;
-    for (lies, number) in [
-        ([ONE, ONE, ONE, ONE], 1),
-        ([ONE, OTHER, OTHER, ONE], 2),
-        ([ONE, OTHER, ONE, ONE], 0),
-        ([ONE, ONE, OTHER, OTHER], 0),
+    let mixed: &[&[u32]] = &[
+        ONE_TWO, ONE_TWO, ONE_TWO, ONE_TWO, ONE_TWO, ONE_TWO, ONE_TWO, TWO_ONE, TWO_ONE, TWO_ONE,
+        TWO_ONE, TWO_ONE, TWO_ONE,
+    ];
+    for (lies, numbers) in [
+        ([one, one, one, one], [1, 1, 1]),
+        ([one, other, other, one], [2, 2, 2]),
+        ([one, other, one, one], [0, 0, 0]),
+        ([one, one, other, other], [0, 0, 0]),
+        ([one, mixed, one, one], [1, 1, 0]),
+        ([one, mixed, other, one], [0, 0, 2]),
     ] {
         let mut wanted = [20, 21, 22, 23, 24, 25, 26, 27, 28, 29, 30, 31, 32, 0, 0, 0];
-        wanted[13..].fill(number);
+        wanted[13..].copy_from_slice(&numbers);
         all_come_to(&rt, rt.alloc(), cluster, &lies, &wanted)?;
     }
     Ok(())
 }
 
-// By this table this is made of each path, or it is refused so.
+// By this table this is made of each path, or the path is refused so.
 fn makes(
     rt: &impl Abort,
     cluster: &Cluster,
@@ -310,11 +356,11 @@ fn makes(
     cases: &[(&[u8], Result<u32, relay::Refusal>)],
 ) {
     for (path, made) in cases {
-        assert_eq!(rt; made_of(cluster, table, path), *made, "{path:?}");
+        made_is(rt, made_of(cluster, table, path), *made);
     }
 }
 
-// Each line has the entries of the rows that end in one node; where a node would stand twice the entry is 77.
+// The first four entries are those of the rows that end in node 0, and so on. Where a node would stand twice there is 77.
 #[test]
 fn table_of_four(rt: HostRuntime) -> Result<(), Fail> {
     let cluster = Cluster::new(4, 1, 0, 0)?;
@@ -342,7 +388,7 @@ fn no_faults(rt: HostRuntime) -> Result<(), Fail> {
     Ok(())
 }
 
-// Fills a table: 7 for the rows whose first node is one of so many, 8 for the others.
+// Fills a table: if a row's first node is one of the first nodes, so many, with 7, else with 8.
 fn fill_by_first(cluster: &Cluster, sevens: usize, table: &mut [u32]) {
     let nodes = cluster.nodes() as usize;
     for index in 0..table.len() {
@@ -350,7 +396,7 @@ fn fill_by_first(cluster: &Cluster, sevens: usize, table: &mut [u32]) {
     }
 }
 
-// Each node has three others, of which one or two have 7.
+// Three nodes can stand in front of a path of one: one of the two with 7, or both.
 #[test]
 fn first_nodes_of_four(rt: HostRuntime) -> Result<(), Fail> {
     let cluster = Cluster::new(4, 1, 0, 0)?;
@@ -360,8 +406,8 @@ fn first_nodes_of_four(rt: HostRuntime) -> Result<(), Fail> {
     Ok(())
 }
 
-// A path of two has five other nodes, of which four or three have 7, or two if two of those are on the path. So of the six paths of
-// two that end in a node of those half come to 8, or for another node none.
+// Five nodes can stand in front of a path of two: those of the four with 7 that are not on it, so only two if two are on
+// it. So of the six paths of two that end in one of the four three come to 8, and of those that end in another node none.
 #[test]
 fn first_nodes_of_seven(rt: HostRuntime) -> Result<(), Fail> {
     let cluster = Cluster::new(7, 2, 0, 0)?;
@@ -381,9 +427,9 @@ fn first_nodes_of_seven(rt: HostRuntime) -> Result<(), Fail> {
     Ok(())
 }
 
-// A path of three has seven other nodes, of which four or more have 7, or three if three of those are on the path. So of the
-// eight paths of three that end in two of those half come to 8, and of other two none; and of the nine paths of two that end
-// in one of those five come to 0, and in another one none.
+// Seven nodes can stand in front of a path of three: those of the six with 7 that are not on it, so only three if three are
+// on it. So of the eight paths of three that end in two of the six four come to 8, and of those that end in other two none.
+// So of the nine paths of two that end in one of the six five come to 0, and of those that end in another node none.
 #[test]
 fn first_nodes_of_ten(rt: HostRuntime) -> Result<(), Fail> {
     let cluster = Cluster::new(10, 3, 0, 0)?;
@@ -439,27 +485,24 @@ fn is_path_to(end: &[u8], index: usize) -> bool {
     row.ends_with(end) && row[0] != row[1] && row[0] != row[2] && row[1] != row[2]
 }
 
-// With entries that are 1 for five indices and 2 for the next five, this is made of a path; and also if all are 9 but those of
-// paths that end in it.
-fn rests_on_its_paths(rt: &impl Abort, path: &[u8], made: u32) -> Result<(), Fail> {
-    let cluster = Cluster::new(7, 2, 0, 0)?;
-    let mut all = [0; 343];
-    let mut few = [9; 343];
+// A table of seven nodes with 1 for five indices, 2 for the next five, and so on; but with `other` for all rows except the
+// paths that end in these nodes.
+fn paths_to(end: &[u8], other: u32) -> [u32; 343] {
+    let mut table = [other; 343];
     for index in 0..343 {
-        all[index] = (index / 5 % 2) as u32 + 1;
-        if is_path_to(path, index) {
-            few[index] = all[index];
+        if is_path_to(end, index) {
+            table[index] = (index / 5 % 2) as u32 + 1;
         }
     }
-    assert_eq!(rt; made_of(&cluster, &all, path), Ok(made));
-    assert_eq!(rt; made_of(&cluster, &few, path), Ok(made));
-    Ok(())
+    table
 }
 
+// What is made of a path rests on the entries of the paths that end in it. `longer` has, for each last node, what is made
+// of each first node in front of it, and 0 where that would be the same node.
 #[test]
 fn entries_of_other_rows(rt: HostRuntime) -> Result<(), Fail> {
+    let cluster = Cluster::new(7, 2, 0, 0)?;
     let alone = [2, 1, 0, 0, 0, 2, 1];
-    // of each node in front of the one that the line is of; 0 where it would stand twice
     let longer = [
         [0, 1, 2, 2, 1, 2, 2],
         [1, 0, 2, 1, 1, 2, 1],
@@ -469,11 +512,18 @@ fn entries_of_other_rows(rt: HostRuntime) -> Result<(), Fail> {
         [2, 2, 1, 2, 2, 0, 2],
         [2, 1, 1, 2, 1, 1, 0],
     ];
-    for last in 0..7 {
-        rests_on_its_paths(&rt, &[last as u8], alone[last])?;
-        for first in 0..7 {
-            if first != last {
-                rests_on_its_paths(&rt, &[first as u8, last as u8], longer[last][first])?;
+    for other in [1, 2, 9] {
+        comes_to(&rt, &cluster, &paths_to(&[], other), &alone);
+        for last in 0..7 {
+            let path = [last as u8];
+            let made = made_of(&cluster, &paths_to(&path, other), &path);
+            made_is(&rt, made, Ok(alone[last]));
+            for first in 0..7 {
+                let path = [first as u8, last as u8];
+                if first != last {
+                    let made = made_of(&cluster, &paths_to(&path, other), &path);
+                    made_is(&rt, made, Ok(longer[last][first]));
+                }
             }
         }
     }
@@ -488,7 +538,7 @@ fn memory(needed: usize) -> Refusal {
     Refusal::ResultsLength { needed }
 }
 
-// By a table of each of these lengths results are refused so, for as many places of memory.
+// By a table of each length, and with memory of so many places, results are refused so, and the memory is left as it was.
 fn refused(rt: &impl Abort, cluster: &Cluster, cases: &[(usize, usize, Refusal)]) {
     let entries = [9; 65_537];
     for &(length, places, why) in cases {
@@ -544,21 +594,7 @@ fn at(place: usize) -> Result<u32, relay::Refusal> {
     Err(relay::Refusal::Node { place })
 }
 
-// This is made of each path by a table of nines; and by one of another length each is refused for that.
-fn answers(rt: &impl Abort, cluster: &Cluster, cases: &[(&[u8], Result<u32, relay::Refusal>)]) {
-    let entries = [9; 65_537];
-    let needed = table_length(cluster);
-    assert!(rt; needed <= 65_536);
-    makes(rt, cluster, &entries[..needed], cases);
-    for length in [0, 3, needed + 1] {
-        for (path, _) in cases {
-            let answer = made_of(cluster, &entries[..length], path);
-            assert_eq!(rt; answer, Err(relay::Refusal::TableLength { needed }));
-        }
-    }
-}
-
-// Its length comes before its nodes, and of those that are wrong the first.
+// A path's length comes before its nodes, and of the nodes that are wrong the first.
 #[test]
 fn paths_refused(rt: HostRuntime) -> Result<(), Fail> {
     let cases = [
@@ -573,7 +609,7 @@ fn paths_refused(rt: HostRuntime) -> Result<(), Fail> {
         (&[0, 4], at(1)),
         (&[3, 3], at(1)),
     ];
-    answers(&rt, &Cluster::new(4, 1, 0, 0)?, &cases);
+    makes(&rt, &Cluster::new(4, 1, 0, 0)?, &[9; 16], &cases);
     let cases = [
         ([15, 0, 14, 1].as_slice(), Ok(9)),
         (&[0, 1, 2, 3, 4], of_length(5)),
@@ -582,27 +618,43 @@ fn paths_refused(rt: HostRuntime) -> Result<(), Fail> {
         (&[3, 2, 3, 16], at(2)),
         (&[3, 2, 1, 2], at(3)),
     ];
-    answers(&rt, &Cluster::new(16, 3, 0, 0)?, &cases);
+    makes(
+        &rt,
+        &Cluster::new(16, 3, 0, 0)?,
+        &[9; MAX_TABLE_LENGTH],
+        &cases,
+    );
     let cases = [
         ([3].as_slice(), Ok(9)),
         (&[], of_length(0)),
         (&[0, 1], of_length(2)),
     ];
-    answers(&rt, &Cluster::new(4, 0, 0, 0)?, &cases);
+    makes(&rt, &Cluster::new(4, 0, 0, 0)?, &[9; 4], &cases);
+    Ok(())
+}
+
+// The table comes first, also where a row is no path.
+#[test]
+fn tables_of_another_length(rt: HostRuntime) -> Result<(), Fail> {
+    let cluster = Cluster::new(4, 1, 0, 0)?;
+    let why = relay::Refusal::TableLength { needed: 16 };
+    for length in [0, 4, 15, 17, 64] {
+        for path in [[0].as_slice(), &[3, 0], &[], &[4], &[0, 0], &[0, 1, 2]] {
+            made_is(&rt, made_of(&cluster, &[9; 64][..length], path), Err(why));
+        }
+    }
     Ok(())
 }
 
 #[test]
 fn codes(rt: HostRuntime) {
+    let length = relay::Refusal::PathLength { length: 5 };
+    let node = relay::Refusal::Node { place: 3 };
     for (refusal, number, place) in [
         (table(65_536), 10, 65_536),
         (memory(16), 10, 16),
-        (
-            Refusal::from(relay::Refusal::PathLength { length: 5 }),
-            11,
-            5,
-        ),
-        (Refusal::from(relay::Refusal::Node { place: 3 }), 11, 3),
+        (Refusal::from(length), 11, 5),
+        (Refusal::from(node), 11, 3),
     ] {
         assert_eq!(rt; Code::from(refusal), Code { number, place });
     }
