@@ -6,9 +6,13 @@ use Rattle.agreement.specs.Results.{made_of_path}
 use Rattle.clock.specs.Rounds.{faulty}
 use Rattle.agreement.specs.Theorems.{AnythingCanBeTold, ThreeAreTooFew, WorkedCases, but}
 
--- what a good node tells is what it holds
-pub holding_tells : AnythingCanBeTold
-holding_tells n faults good value lies p q path of_p of_q is short = rw of_q.1 refl
+-- what a good node tells is what it holds, and what a faulty one tells is its lie
+pub anything_told : AnythingCanBeTold
+anything_told n faults good value lies = record {
+  tell = λ p q path of_p of_q is short. rw of_q.1 refl;
+  given = λ p. refl;
+  lied = λ p q path is_not. rw is_not refl;
+}
 
 one_of_three : faulty 3 (but 2) ≡ 1
 unfolding count
@@ -17,7 +21,7 @@ one_of_three = refl
 pub three_are_too_few : ThreeAreTooFew
 unfolding made_of_path majority count
 three_are_too_few = record {
-  tell = holding_tells 3 1 (but 2) (slice_index (5 ∷ 6 ∷ [])) (λ p q path. slice_index (5 ∷ 9 ∷ []) p);
+  tell = (anything_told 3 1 (but 2) (slice_index (5 ∷ 6 ∷ [])) (λ p q path. slice_index (5 ∷ 9 ∷ []) p)).tell;
   one = one_of_three;
   by_0 = refl;
   by_1 = refl;

@@ -46,10 +46,15 @@ AgreedByTables =
     (c : Cluster) (good : ℕ → Bool) (value : ℕ → ℕ) (first : ℕ) (tables : ℕ → ℕ → List ℕ) → FewBad c good → Cycle c good value first tables →
     Settled c good value (tables (suc c.faults))
 
--- What is asked of good nodes leaves the faulty ones free: whatever these tell each node of each path, there is what good nodes then hold.
+-- What is asked of good nodes leaves the faulty ones free: whatever values nodes give, and whatever the faulty ones tell each node of each path, there is what good
+-- nodes then hold.
+pub record Told (n faults : ℕ) (good : ℕ → Bool) (value : ℕ → ℕ) (lies : ℕ → ℕ → List ℕ → ℕ) : Type 0 where
+  pub tell : Tells n faults good (holding good value lies)
+  pub given : (p : ℕ) → holding good value lies p [] ≡ value p
+  pub lied : (p q : ℕ) (path : List ℕ) → good q ≡ false → holding good value lies p (q ∷ path) ≡ lies p q path
+
 abbrev pub AnythingCanBeTold : Type 0
-AnythingCanBeTold =
-    (n faults : ℕ) (good : ℕ → Bool) (value : ℕ → ℕ) (lies : ℕ → ℕ → List ℕ → ℕ) → Tells n faults good (holding good value lies)
+AnythingCanBeTold = (n faults : ℕ) (good : ℕ → Bool) (value : ℕ → ℕ) (lies : ℕ → ℕ → List ℕ → ℕ) → Told n faults good value lies
 
 -- And so by tables: there is such a cycle. Its tables are as long as the cluster needs, and hold numbers below 2^32 if the values and the lies are such.
 pub record CycleWith (c : Cluster) (good : ℕ → Bool) (value : ℕ → ℕ) (first : ℕ) (lies : ℕ → ℕ → List ℕ → ℕ) : Type 0 where

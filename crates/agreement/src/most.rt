@@ -1,6 +1,7 @@
 //! The value that more than half of a list have.
 ghost use Rattle.std.specs.Prelude.{◌≡◌, ℕ, ◌<◌, true, List};
 ghost use Rattle.std.specs.List.{push};
+ghost use Rattle.clock.specs.Deviation.{largest};
 ghost use Rattle.agreement.specs.Majority.{times, is_most, majority};
 ghost use Rattle.agreement.specs.Pairs.{IsLeftOf};
 
@@ -46,7 +47,7 @@ impl Left {
     // What is left of these values and one more.
     #[tactic(auto, using(crate::proofs::Pairs::same, crate::proofs::Pairs::first))]
     fn with(self, value: u32) -> Left
-        requires { self.times < 18446744073709551615 }
+        requires { self.times < largest }
         ensures { (values : List ℕ) → IsLeftOf values self → IsLeftOf (push values value) result }
     {
         if self.times == 0 {
