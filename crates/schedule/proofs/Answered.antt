@@ -1,5 +1,5 @@
 -- What a listener answers: the message of its slot's node that alone came whole, and nothing that began before its slot. Assumes nothing.
-use Rattle.std.proofs.Common.{◌≡◌, ℕ, ◌≤◌, true, false, List, [], ◌∷◌, ◌++◌, refl, ap, ◌∙◌, inl, inr, arith}
+use Rattle.std.proofs.Common.{◌≡◌, ℕ, ◌≤◌, true, false, List, [], ◌∷◌, ◌++◌, ℤ, None, Option, ◌⊎◌, refl, ap, ◌∙◌, inl, inr, arith}
 use Rattle.std.proofs.lemmas.Bool.{cases_Bool}
 use Rattle.std.proofs.lemmas.Bool.Decides.{nat_tests}
 use Rattle.std.proofs.lemmas.List.Elements.{All-head, filter_passes}
@@ -48,6 +48,12 @@ module _ {M : Type 0} (s : Schedule) (slot : ℕ) where
   pub heard_from_slot : (time : ℕ) (arrivals : List (Arrival M)) →
       FromSlot (timing_of s) slot (option_map (λ received. received.deviation) (heard_in s slot time arrivals))
   heard_from_slot time arrivals = from_slot (whole_ones s slot time arrivals) (filter_passes (came_whole s slot) (taken time arrivals))
+
+  -- and also where the answer is turned away, as if nothing had come
+  pub none_or_from_slot : (time : ℕ) (arrivals : List (Arrival M)) (heard : Option ℤ) →
+      (heard ≡ None) ⊎ (heard ≡ option_map (λ received. received.deviation) (heard_in s slot time arrivals)) → FromSlot (timing_of s) slot heard
+  none_or_from_slot time arrivals heard (inl e) = rw e tt
+  none_or_from_slot time arrivals heard (inr e) = rw e (heard_from_slot time arrivals)
 
 pub hears_the_message : {M : Type 0} (l : Listener M) → HearsTheMessage l
 hears_the_message l opened time earlier later a sent begins ends is_open told alone sends way before behind =

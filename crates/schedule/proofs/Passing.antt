@@ -1,17 +1,20 @@
 -- Messages that pass from node to node: they are whole in their slot, find clocks that are set, and do not overlap. Assumes nothing.
 use borrow.Author.Differences.{ints}
-use Rattle.std.proofs.Common.{◌≡◌, ℕ, zero, suc, ◌+◌, ◌*◌, ◌<◌, ◌≤◌, Bool, true, false, eqb, List, get_or, ℤ, pos, ◌+ℤ◌, ◌-ℤ◌, ◌≤ℤ◌, Some, None, Option, sym, refl, inl, inr, mul-le-mul_right, add-mul, div-mul-le_self, arith}
+use Rattle.std.proofs.Common.{◌≡◌, ℕ, zero, suc, ◌+◌, ◌*◌, ◌<◌, ◌≤◌, Bool, true, false, eqb, List, map, get_or, ℤ, pos, ◌+ℤ◌, ◌-ℤ◌, ◌≤ℤ◌, Some, None, Option, sym, refl, inl, inr, mul-le-mul_right, add-mul, div-mul-le_self, arith}
 use Rattle.std.proofs.lemmas.Bool.{cases_Bool, cases_lt, ne_eqb}
 use Rattle.std.proofs.lemmas.Bool.Decides.{nat_tests}
 use Rattle.std.specs.List.{range_with_len}
-use Rattle.midpoint.specs.Setting.{clock_limit}
+use Rattle.midpoint.specs.Midpoint.{midpoint}
+use Rattle.midpoint.specs.Refusals.{first_applying}
+use Rattle.midpoint.specs.Setting.{unusable, clock_limit}
+use Rattle.midpoint.specs.declared.refusal.Code.{Code}
 use Rattle.midpoint.proofs.Sorting.{count_none}
 use Rattle.clock.specs.Config.{bound_of, width_of}
 use Rattle.clock.specs.Deviation.{deviation_of, moved}
 use Rattle.clock.specs.Rounds.{Moment, lead, GoodNode, FewBad, Apart, Round}
-use Rattle.clock.specs.Setting.{read_of, reads, readings, settled}
+use Rattle.clock.specs.Setting.{read_of, reads, readings, unless, settled}
 use Rattle.clock.proofs.Nodes.{midpoint_within}
-use Rattle.clock.proofs.Rounds.{not_turned_away, stays_between}
+use Rattle.clock.proofs.Rounds.{stays_between}
 use Rattle.schedule.specs.Config.{timing_of}
 use Rattle.schedule.specs.Messages.{Instant, instant, AheadBy, Sends, Course, FromSlot}
 use Rattle.schedule.specs.Slots.{Timing, owner_of, round_of, slot_of, slot_start, slot_end_of, round_end_of}
@@ -96,18 +99,24 @@ makes_a_round s good round heard ends after set h sets runs counts = record {
   counts = counts;
 }
 
--- so nor is a clock set past it
-pub settles_no_farther : (s : Schedule) (round own p : ℕ) (heard : List (Option ℤ)) → own + s.pause < clock_limit →
+-- what both come up to is the most that a setting can leave, whether it is turned away or not
+leaves_no_more : (refusal : Option Code) (new own high : ℕ) → new ≤ high → own ≤ high → unless refusal new own ≤ high
+leaves_no_more None new own high set kept = set
+leaves_no_more (Some code) new own high set kept = kept
+
+-- So nor is a clock set past it: to readings that are not, or, where they are turned away, not at all.
+pub settles_no_farther : (s : Schedule) (round own p : ℕ) (heard : List (Option ℤ)) →
     ((q : ℕ) → q < s.cluster.nodes → FromSlot (timing_of s) (slot_of (timing_of s) round q) (get_or heard q None)) →
     settled s.cluster.faults own (readings s.cluster.nodes p own heard) ≤ own + s.pause
 unfolding readings
-settles_no_farther s round own p heard room from =
+settles_no_farther s round own p heard from =
     let each : (q : ℕ) → q < s.cluster.nodes → reads p own heard q ≤ own + s.pause =
     λ q h. reads_from_slot (timing_of s) (slot_of (timing_of s) round q) own p q heard (from q h) in
-    let t = not_turned_away s.cluster (reads p own heard) (λ q h. omega (arith, room, each q h)) in
     let none = count_none (λ q. false) (range_with_len 0 s.cluster.nodes) (λ i d h. refl) in
-    rw t
-    (midpoint_within s.cluster (λ q. true) (reads p own heard) 0 (own + s.pause) (omega arith) (λ q h b. (omega arith, omega (arith, each q h)))).1
+    let (_, high) =
+    midpoint_within s.cluster (λ q. true) (reads p own heard) 0 (own + s.pause) (omega arith) (λ q h b. (omega arith, omega (arith, each q h))) in
+    let xs = map (reads p own heard) (range_with_len 0 s.cluster.nodes) in
+    leaves_no_more (first_applying (unusable s.cluster.faults xs)) (midpoint s.cluster.faults xs) own (own + s.pause) high (omega arith)
 
 -- a good clock is set to no more than width, error and drift ahead of any good clock before it was set
 not_far_ahead : (s : Schedule) (good : ℕ → Bool) (heard : ℕ → List (Option ℤ)) (before after : ℕ → Moment) (p q : ℕ) → FewBad s.cluster good →

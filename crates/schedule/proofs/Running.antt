@@ -1,7 +1,7 @@
 -- Runs of good nodes, made round by round from what may be chosen of them. Assumes nothing.
 use borrow.Author.Differences.{ints}
-use Rattle.std.proofs.Common.{◌≡◌, ℕ, zero, suc, ◌+◌, ◌-◌, ◌*◌, ◌<◌, ◌≤◌, min, Bool, true, ◌&&◌, cond, ◌==◌, leb, List, [], ◌∷◌, get_or, ℤ, None, Option, refl, ap, subst, ◌∙◌, sym, inl, inr, mul-le-mul_right, arith}
-use Rattle.std.proofs.lemmas.Bool.{cases_lt}
+use Rattle.std.proofs.Common.{◌≡◌, ℕ, zero, suc, ◌+◌, ◌-◌, ◌*◌, ◌<◌, ◌≤◌, min, Bool, true, ◌&&◌, cond, ◌==◌, leb, List, [], ◌∷◌, get_or, ℤ, Some, None, Option, ◌⊎◌, refl, ap, subst, ◌∙◌, sym, inl, inr, mul-le-mul_right, arith}
+use Rattle.std.proofs.lemmas.Bool.{cases_Bool, cases_lt}
 use Rattle.std.proofs.lemmas.Bool.Decides.{nat_tests}
 use Rattle.std.specs.List.{AllByRecursion}
 use Rattle.std.specs.Option.{option_map}
@@ -13,11 +13,12 @@ use Rattle.clock.proofs.Heard.{as_heard, heard_of}
 use Rattle.schedule.specs.Config.{timing_of}
 use Rattle.schedule.specs.Listening.{heard_in}
 use Rattle.schedule.specs.Messages.{FromSlot}
-use Rattle.schedule.specs.Runs.{Run, arrival_of, OtherThan, Delivered, Lawful, Choice, OnOtherWires, RunGiven, RunCanBeGiven}
+use Rattle.schedule.specs.Runs.{Run, arrival_of, OtherThan, Delivered, World, Duties, Choice, OnOtherWires, TakesTheGood, taken_by, RunGiven, RunCanBeGiven}
 use Rattle.schedule.specs.Slots.{Timing, slot_of, send_time_of, round_end_of}
 use Rattle.schedule.specs.declared.limits.Schedule.{Schedule}
 use Rattle.schedule.specs.declared.listening.Arrival.{Arrival}
-use Rattle.schedule.proofs.Answered.{heard_from_slot}
+use Rattle.schedule.specs.declared.listening.Received.{Received}
+use Rattle.schedule.proofs.Answered.{none_or_from_slot}
 use Rattle.schedule.proofs.Passing.{ahead_by, settles_no_farther, rises, in_round, behind_round}
 
 -- A clock at a later common time: it stands for the ticks that it loses, and then goes on.
@@ -63,8 +64,21 @@ runs_on : (m : Moment) (loss x time : ℕ) → m.common ≤ x → x ≤ comes_to
     keeps_up m loss (later m loss x) ≡ true
 runs_on m loss x time low high le h = grind (arith, nat_tests)
 
+-- what is heard of an answer is nothing, or the answer
+none_or_taken : {M : Type 0} (takes : M → Bool) (answer : Option (Received M)) →
+    (option_map (λ received. received.deviation) (taken_by takes answer) ≡ None)
+    ⊎ (option_map (λ received. received.deviation) (taken_by takes answer) ≡ option_map (λ received. received.deviation) answer)
+none_or_taken takes None = inl refl
+none_or_taken takes (Some received) =
+    elim (cases_Bool (takes received.message)) [ inl is ↦ rw is (inr refl) | inr turned ↦ rw turned (inl refl) ]
+
+-- and the answer, where that is taken
+takes_it : {M : Type 0} (takes : M → Bool) (answer : Option (Received M)) (received : Received M) (said : M) → answer ≡ Some received →
+    received.message ≡ said → takes said ≡ true → option_map (λ received. received.deviation) (taken_by takes answer) ≡ Some received.deviation
+takes_it takes answer received said e holds is = let taken : takes received.message ≡ true = rw holds is in rw (e, taken) refl
+
 module _ {M : Type 0} (s : Schedule) (good : ℕ → Bool) (rounds : ℕ) (first : ℕ → Moment) (losses : ℕ → ℕ → ℕ) (delays lengths : ℕ → ℕ → ℕ → ℕ)
-    (said : ℕ → ℕ → M) (lies noise : ℕ → ℕ → ℕ → List (Arrival M)) where
+    (said : ℕ → ℕ → M) (lies noise : ℕ → ℕ → ℕ → List (Arrival M)) (takes : ℕ → ℕ → ℕ → M → Bool) where
   abbrev t : Timing
   t = timing_of s
 
@@ -98,8 +112,12 @@ module _ {M : Type 0} (s : Schedule) (good : ℕ → Bool) (rounds : ℕ) (first
     abbrev arrivals : ℕ → ℕ → List (Arrival M)
     arrivals p q = cond (good q) (message p q ∷ noise k p q) (lies k p q)
 
+    -- what the listener answers, and what is heard of it
+    abbrev answer : ℕ → ℕ → Option (Received M)
+    answer p q = heard_in s (slot_of t k q) 0 (arrivals p q)
+
     abbrev hears : ℕ → ℕ → Option ℤ
-    hears p q = option_map (λ received. received.deviation) (heard_in s (slot_of t k q) 0 (arrivals p q))
+    hears p q = option_map (λ received. received.deviation) (taken_by (takes k p q) (answer p q))
 
     abbrev all_heard : ℕ → List (Option ℤ)
     all_heard p = as_heard n (hears p)
@@ -161,7 +179,8 @@ module _ {M : Type 0} (s : Schedule) (good : ℕ → Bool) (rounds : ℕ) (first
   noises k p q [] others = tt
   noises k p q (a ∷ xs) (other, others) = (λ own. absurd (other own), noises k p q xs others)
 
-  module _ (choice : Choice s good rounds first losses delays lengths) (other_wires : OnOtherWires noise) where
+  module _ (choice : Choice s good rounds first losses delays lengths) (other_wires : OnOtherWires noise)
+      (takes_good : TakesTheGood s good rounds said takes) where
     -- what is due in a round is below the limit, and lies in it
     due_below : (k p : ℕ) → k ≤ rounds → GoodNode s.cluster good p → due k p < clock_limit
     due_below k p h g =
@@ -175,10 +194,16 @@ module _ {M : Type 0} (s : Schedule) (good : ℕ → Bool) (rounds : ℕ) (first
     due_in : (k p : ℕ) → GoodNode s.cluster good p → due k p ≤ round_end_of t k
     due_in k p g = omega (arith, in_round s k p g.0, s.behind)
 
-    -- what is heard is of its slot
+    -- what is heard is what a listener answers, or nothing, and so it is of its slot
+    listens_or_none : (start : ℕ → Moment) (k p q : ℕ) → q < n →
+        (get_or (all_heard start k p) q None ≡ None)
+        ⊎ (get_or (all_heard start k p) q None ≡ option_map (λ received. received.deviation) (answer start k p q))
+    listens_or_none start k p q h =
+        let e = heard_of n s.cluster.most (hears start k p) q h in rw e (none_or_taken (takes k p q) (answer start k p q))
+
     from_slots : (start : ℕ → Moment) (k p q : ℕ) → q < n → FromSlot t (slot_of t k q) (get_or (all_heard start k p) q None)
     from_slots start k p q h =
-        let e = heard_of n s.cluster.most (hears start k p) q h in rw e (heard_from_slot s (slot_of t k q) 0 (arrivals start k p q))
+        none_or_from_slot s (slot_of t k q) 0 (arrivals start k p q) (get_or (all_heard start k p) q None) (listens_or_none start k p q h)
 
     -- where a round begins before its message is due, it ends when it should, and the next one begins in time
     ends_right : (k p : ℕ) → k < rounds → GoodNode s.cluster good p → (starts k p).clock.shown ≤ due k p →
@@ -190,11 +215,7 @@ module _ {M : Type 0} (s : Schedule) (good : ℕ → Bool) (rounds : ℕ) (first
         middle (starts k) k p ≤ round_end_of t k + s.pause
     sets_le k p h g le =
         let e = ends_right k p h g le in
-        omega (
-          arith,
-          settles_no_farther s k (ending (starts k) k p).clock.shown p (all_heard (starts k) k p) (omega (arith, ends_below k p h g))
-              (from_slots (starts k) k p),
-        )
+        omega (arith, settles_no_farther s k (ending (starts k) k p).clock.shown p (all_heard (starts k) k p) (from_slots (starts k) k p))
 
     early : (k p : ℕ) → k ≤ rounds → GoodNode s.cluster good p → (starts k p).clock.shown ≤ due k p
     unfolding starts
@@ -260,40 +281,45 @@ module _ {M : Type 0} (s : Schedule) (good : ℕ → Bool) (rounds : ℕ) (first
       in_time = omega arith;
     }
 
-    lawful : Lawful s good rounds run
+    world : World s good rounds run
     unfolding run starts
-    lawful = record {
+    world = record {
       drifts = λ k p a b h g ia ib.
           let (gains, loses) = kept_up (starts k p) (losses k p) a ia in
           let (gains_other, loses_other) = kept_up (starts k p) (losses k p) b ib in
           let few = choice.steady k p in
           omega (arith, ints);
-      starting = λ k p h g. grind (arith, nat_tests);
-      sending = λ k p h g.
-          let le = early k p h g in
-          let l = due_below k p h g in (
-            runs_on (starts k p) (losses k p) (sending (starts k) k p) (due k p) (omega arith) (omega arith) le l,
-            shows (starts k p) (losses k p) (due k p) le l,
-          );
-      ending = λ k p h g.
-          (in_its_round k p (ending (starts k) k p).common h g (omega arith) (omega arith), ends_right k p h g (early k p (omega arith) g));
-      counts = λ k p h g. refl;
-      setting = λ k p h g.
-          (refl, record { its_shown = omega (arith, sets_le k p h g (early k p (omega arith) g), ends_below k p h g); its_round = refl });
+      begun = λ k p h g. grind (arith, nat_tests);
+      sent = λ k p h g.
+          runs_on (starts k p) (losses k p) (sending (starts k) k p) (due k p) (omega arith) (omega arith) (early k p h g) (due_below k p h g);
+      ended = λ k p h g. in_its_round k p (ending (starts k) k p).common h g (omega arith) (omega arith);
+      at_once = λ k p h g. refl;
       carried = λ k p q h gp gq d.
           let (wire, jitter) = choice.on_time k p q in
           let (some, most) = choice.lasting k p q in
           (record { leaves = omega arith; arrives = omega arith; lasts = omega arith }, omega arith, omega arith);
       falls_in = λ k j p q h u gp gq d low high. in_round_then k j p q h gp low high;
-      listened = λ k p q h g l. heard_of n s.cluster.most (hears (starts k) k p) q l;
       wires = λ k p q h gp gq d low high is. told k p q h gp gq low high;
     }
 
-    given : RunGiven s good rounds first losses delays lengths said lies noise
+    duties : Duties s good rounds run
+    unfolding run starts
+    duties = record {
+      sending = λ k p h g. shows (starts k p) (losses k p) (due k p) (early k p h g) (due_below k p h g);
+      ending = λ k p h g. ends_right k p h g (early k p (omega arith) g);
+      setting = λ k p h g. record { its_shown = omega (arith, sets_le k p h g (early k p (omega arith) g), ends_below k p h g); its_round = refl };
+      counts = λ k p h g. refl;
+      listened = λ k p q h g l. listens_or_none (starts k) k p q l;
+      taken = λ k p q h gp gq d received e holds.
+          heard_of n s.cluster.most (hears (starts k) k p) q gq.0
+          ∙ takes_it (takes k p q) (answer (starts k) k p q) received (said k q) e holds (takes_good k p q h gp gq d);
+    }
+
+    given : RunGiven s good rounds first losses delays lengths said lies noise takes
     unfolding run starts
     given = record {
       run = run;
-      lawful = lawful;
+      lawful = record { world = world; duties = duties };
       started = record {
         near = choice.near;
         first = choice.from_zero;
@@ -308,8 +334,10 @@ module _ {M : Type 0} (s : Schedule) (good : ℕ → Bool) (rounds : ℕ) (first
       says = λ k q. refl;
       lied = λ k p q b. rw b;
       noisy = arrives;
+      opens = λ k p q. refl;
+      hears = λ k p q h. heard_of n s.cluster.most (hears (starts k) k p) q h;
     }
 
 pub run_can_be_given_lem : {M : Type 0} → RunCanBeGiven M
-run_can_be_given_lem s good rounds first losses delays lengths said lies noise choice other_wires =
-    given s good rounds first losses delays lengths said lies noise choice other_wires
+run_can_be_given_lem s good rounds first losses delays lengths said lies noise takes choice other_wires takes_good =
+    given s good rounds first losses delays lengths said lies noise takes choice other_wires takes_good

@@ -1,6 +1,6 @@
 -- A run of good nodes over any number of rounds, whatever the faulty ones do: clocks that are set, messages that pass, and what was heard of them.
 -- What holds of it, and that there are such runs, are statements that contracts of functions of src/theorems.rt demand. Assumes nothing.
-use Rattle.std.specs.Prelude.{◌≡◌, ℕ, suc, ◌+◌, ◌<◌, ◌≤◌, Bool, true, false, List, ◌∷◌, ◌++◌, ℤ, pos, ◌+ℤ◌, ◌≤ℤ◌, Some, None, Option, ◌≢◌, slice_index_or}
+use Rattle.std.specs.Prelude.{◌≡◌, ℕ, suc, ◌+◌, ◌<◌, ◌≤◌, Bool, true, false, cond, List, ◌∷◌, ◌++◌, ℤ, pos, ◌+ℤ◌, ◌≤ℤ◌, Some, None, Option, ◌≢◌, ◌⊎◌, slice_index_or}
 use Rattle.std.specs.List.{AllByRecursion}
 use Rattle.std.specs.Option.{option_map}
 use Rattle.midpoint.specs.Setting.{clock_limit}
@@ -63,27 +63,17 @@ pub record Delivered {M : Type 0} (r : Run M) (rounds k p q : ℕ) : Type 0 wher
   pub in_order : AllByRecursion (λ a. a.ended ≤ (r.over k p q).clock.shown) earlier
   pub in_time : r.opened k p q ≤ (r.over k p q).clock.shown
 
--- What is asked of a run over so many rounds, and of the next one as far as it goes. Nothing is asked of the faulty nodes, nor of what arrives from
--- them. It is not asked that messages are heard, that they fall into the receiver's round of the same number, that no other falls there, that clocks
--- are set in time, or that readings are right.
-pub record Lawful {M : Type 0} (s : Schedule) (good : ℕ → Bool) (rounds : ℕ) (r : Run M) : Type 0 where
+-- What is asked of clocks and wires over so many rounds, and in the next one as far as it goes.
+pub record World {M : Type 0} (s : Schedule) (good : ℕ → Bool) (rounds : ℕ) (r : Run M) : Type 0 where
   -- in a round a clock runs off by no more than the drift between any two moments
   pub drifts :
       (k p : ℕ) (a b : Moment) → k ≤ rounds → GoodNode s.cluster good p → r.of_round k p a ≡ true → r.of_round k p b ≡ true →
       lead a ≤ℤ (lead b +ℤ pos s.cluster.drift)
-  -- a round begins with the setting of the last one; the node sends in it, and it ends, when its clock shows the time for it
-  pub starting : (k p : ℕ) → k ≤ rounds → GoodNode s.cluster good p → r.of_round k p (r.starts k p) ≡ true
-  pub sending :
-      (k p : ℕ) → k ≤ rounds → GoodNode s.cluster good p →
-      (r.of_round k p (r.sends k p) ≡ true) × Sends (timing_of s) (slot_of (timing_of s) k p) (instant (r.sends k p))
-  pub ending :
-      (k p : ℕ) → k < rounds → GoodNode s.cluster good p →
-      (r.of_round k p (r.ends k p) ≡ true) × ((r.ends k p).clock.shown ≡ round_end_of (timing_of s) k)
-  pub setting :
-      (k p : ℕ) → k < rounds → GoodNode s.cluster good p →
-      ((r.starts (suc k) p).common ≡ (r.ends k p).common) × SetBy s.cluster p (r.ends k p).clock (r.heard k p) (r.starts (suc k) p).clock
-  -- and in a round the node counts the same round
-  pub counts : (k p : ℕ) → k < rounds → GoodNode s.cluster good p → (r.ends k p).clock.round ≡ (r.starts k p).clock.round
+  -- the clock as a round begins, as the node sends in it, and as it ends is in that round; and the setting, with which the next one begins, takes no time
+  pub begun : (k p : ℕ) → k ≤ rounds → GoodNode s.cluster good p → r.of_round k p (r.starts k p) ≡ true
+  pub sent : (k p : ℕ) → k ≤ rounds → GoodNode s.cluster good p → r.of_round k p (r.sends k p) ≡ true
+  pub ended : (k p : ℕ) → k < rounds → GoodNode s.cluster good p → r.of_round k p (r.ends k p) ≡ true
+  pub at_once : (k p : ℕ) → k < rounds → GoodNode s.cluster good p → (r.starts (suc k) p).common ≡ (r.ends k p).common
   -- a message between good nodes sets out when it is sent, is on its way no longer than the wire's time and no longer than the jitter, and does not end
   -- before it begins
   pub carried :
@@ -98,10 +88,6 @@ pub record Lawful {M : Type 0} (s : Schedule) (good : ℕ → Bool) (rounds : �
       (r.starts k p).common ≤ (r.begins j p q).common → (r.over j p q).common ≤ (r.ends k p).common →
       (r.of_round k p (r.begins j p q) ≡ true) × (r.of_round k p (r.over j p q) ≡ true)
       × ((r.begins j p q).clock.shown ≤ (r.over j p q).clock.shown)
-  -- what is heard of a node, good or not, is what the listener for its slot answers: a node's own slot included, which is not read
-  pub listened :
-      (k p q : ℕ) → k < rounds → GoodNode s.cluster good p → q < s.cluster.nodes →
-      slice_index_or (r.heard k p) q None ≡ option_map (λ received. received.deviation) (answered s r k p q)
   -- On the wire from a good node to a good one come that node's messages and nothing else. Where its message of the round begins and ends in that round
   -- of the receiver, and while its slot lasts by the receiver's clock, the listener for the slot is open before that message has ended, and is told of
   -- it once; and what it is told of before, on any wire, did not end later.
@@ -110,6 +96,35 @@ pub record Lawful {M : Type 0} (s : Schedule) (good : ℕ → Bool) (rounds : �
       (r.starts k p).common ≤ (r.begins k p q).common → (r.over k p q).common ≤ (r.ends k p).common →
       whole_in (timing_of s) (slot_of (timing_of s) k q) q (r.begins k p q).clock.shown (r.over k p q).clock.shown ≡ true →
       Delivered r rounds k p q
+
+-- What is asked of good nodes, and of what drives them: when they send and end a round, how they are set, and what they make of what they heard.
+pub record Duties {M : Type 0} (s : Schedule) (good : ℕ → Bool) (rounds : ℕ) (r : Run M) : Type 0 where
+  -- a round begins with the setting of the last one; the node sends in it, and it ends, when its clock shows the time for it
+  pub sending :
+      (k p : ℕ) → k ≤ rounds → GoodNode s.cluster good p → Sends (timing_of s) (slot_of (timing_of s) k p) (instant (r.sends k p))
+  pub ending : (k p : ℕ) → k < rounds → GoodNode s.cluster good p → (r.ends k p).clock.shown ≡ round_end_of (timing_of s) k
+  pub setting :
+      (k p : ℕ) → k < rounds → GoodNode s.cluster good p →
+      SetBy s.cluster p (r.ends k p).clock (r.heard k p) (r.starts (suc k) p).clock
+  -- and in a round the node counts the same round
+  pub counts : (k p : ℕ) → k < rounds → GoodNode s.cluster good p → (r.ends k p).clock.round ≡ (r.starts k p).clock.round
+  -- What is heard of a node, good or not, is what the listener for its slot answers: a node's own slot included, which is not read. A node may turn the
+  -- answer away; then it is as if nothing had come.
+  pub listened :
+      (k p q : ℕ) → k < rounds → GoodNode s.cluster good p → q < s.cluster.nodes →
+      (slice_index_or (r.heard k p) q None ≡ None)
+      ⊎ (slice_index_or (r.heard k p) q None ≡ option_map (λ received. received.deviation) (answered s r k p q))
+  -- what a good node says in a round is not turned away where it is heard in it
+  pub taken :
+      (k p q : ℕ) → k < rounds → GoodNode s.cluster good p → GoodNode s.cluster good q → (p ≢ q) → (received : Received M) →
+      answered s r k p q ≡ Some received → received.message ≡ r.said k q → slice_index_or (r.heard k p) q None ≡ Some received.deviation
+
+-- What is asked of a run over so many rounds, and of the next one as far as it goes. Nothing is asked of the faulty nodes, nor of what arrives from
+-- them. It is not asked that messages are heard, that they fall into the receiver's round of the same number, that no other falls there, that clocks
+-- are set in time, or that readings are right.
+pub record Lawful {M : Type 0} (s : Schedule) (good : ℕ → Bool) (rounds : ℕ) (r : Run M) : Type 0 where
+  pub world : World s good rounds r
+  pub duties : Duties s good rounds r
 
 -- How it starts: good clocks are within the bound and in round 0, and each is in that round when the first message of another good node begins to
 -- arrive. That a node's own sending in that round is behind its start is not asked.
@@ -169,8 +184,9 @@ Stands M =
 
 -- There are such runs, over as many rounds as clocks can show. This may be chosen of them: the good clocks as the first round begins, how much each
 -- has lost in a round when its node sends, how long each message is on its way and lasts, what the messages hold, all that a listener for a faulty
--- node's slot is told of (any messages, on any wires and at any times), and all that one for a good node's slot is told of behind that node's message
--- (any, on other wires and at any times).
+-- node's slot is told of (any messages, on any wires and at any times), all that one for a good node's slot is told of behind that node's message
+-- (any, on other wires and at any times), and, by what a message holds that a listener answers, whether the node takes it or turns it away (any, but for
+-- what a good node says in a round: that is taken in it by the other good ones).
 pub record Choice
     (s : Schedule) (good : ℕ → Bool) (rounds : ℕ) (first : ℕ → Moment) (losses : ℕ → ℕ → ℕ) (delays lengths : ℕ → ℕ → ℕ → ℕ) : Type 0 where
   -- the clocks are within the bound and in round 0, and show so little that none misses the first message
@@ -188,9 +204,19 @@ pub record Choice
 abbrev pub OnOtherWires : {M : Type 0} → (ℕ → ℕ → ℕ → List (Arrival M)) → Type 0
 OnOtherWires noise = (k p q : ℕ) → AllByRecursion (λ a. a.wire ≢ q) (noise k p q)
 
+-- Round, receiver, sender, and what a message holds: whether the receiver takes it. What a good node says in a round, the other good ones take in it.
+abbrev pub TakesTheGood : {M : Type 0} → Schedule → (ℕ → Bool) → ℕ → (ℕ → ℕ → M) → (ℕ → ℕ → ℕ → M → Bool) → Type 0
+TakesTheGood s good rounds said takes =
+    (k p q : ℕ) → k < rounds → GoodNode s.cluster good p → GoodNode s.cluster good q → (p ≢ q) → takes k p q (said k q) ≡ true
+
+-- what a node is left with of what its listener answers: that, if it takes what the message holds, else nothing
+abbrev pub taken_by : {M : Type 0} → (M → Bool) → Option (Received M) → Option (Received M)
+taken_by takes None = None
+taken_by takes (Some received) = cond (takes received.message) (Some received) None
+
 pub record RunGiven {M : Type 0}
     (s : Schedule) (good : ℕ → Bool) (rounds : ℕ) (first : ℕ → Moment) (losses : ℕ → ℕ → ℕ) (delays lengths : ℕ → ℕ → ℕ → ℕ)
-    (said : ℕ → ℕ → M) (lies noise : ℕ → ℕ → ℕ → List (Arrival M)) : Type 0 where
+    (said : ℕ → ℕ → M) (lies noise : ℕ → ℕ → ℕ → List (Arrival M)) (takes : ℕ → ℕ → ℕ → M → Bool) : Type 0 where
   pub run : Run M
   pub lawful : Lawful s good rounds run
   pub started : Started s good run
@@ -208,9 +234,15 @@ pub record RunGiven {M : Type 0}
   pub noisy :
       (k p q : ℕ) → k < rounds → GoodNode s.cluster good p → GoodNode s.cluster good q → (run.starts k p).common ≤ (run.begins k p q).common →
       (run.over k p q).common ≤ (run.ends k p).common → run.arrived k p q ≡ arrival_of run k p q ∷ noise k p q
+  -- each listener is open from the first, and what is heard is what it answers, where that is taken, else nothing
+  pub opens : (k p q : ℕ) → run.opened k p q ≡ 0
+  pub hears :
+      (k p q : ℕ) → q < s.cluster.nodes →
+      slice_index_or (run.heard k p) q None ≡ option_map (λ received. received.deviation) (taken_by (takes k p q) (answered s run k p q))
 
 abbrev pub RunCanBeGiven : Type 0 → Type 0
 RunCanBeGiven M =
     (s : Schedule) (good : ℕ → Bool) (rounds : ℕ) (first : ℕ → Moment) (losses : ℕ → ℕ → ℕ) (delays lengths : ℕ → ℕ → ℕ → ℕ)
-    (said : ℕ → ℕ → M) (lies noise : ℕ → ℕ → ℕ → List (Arrival M)) → Choice s good rounds first losses delays lengths → OnOtherWires noise →
-    RunGiven s good rounds first losses delays lengths said lies noise
+    (said : ℕ → ℕ → M) (lies noise : ℕ → ℕ → ℕ → List (Arrival M)) (takes : ℕ → ℕ → ℕ → M → Bool) →
+    Choice s good rounds first losses delays lengths → OnOtherWires noise → TakesTheGood s good rounds said takes →
+    RunGiven s good rounds first losses delays lengths said lies noise takes

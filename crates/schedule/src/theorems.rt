@@ -83,7 +83,8 @@ pub fn set_in_time_with_leads()
 
 /// Good clocks that start within the bound stay together, and good nodes hear each other and do not overlap,
 /// for any number of rounds and whatever the faulty nodes do. What a node hears is what its listeners answer
-/// of all that they are told of, and each round is one that the clock's theorems speak of.
+/// of all that they are told of, or nothing where it turns that away, as it may but for what good nodes say
+/// in a round; and each round is one that the clock's theorems speak of.
 pub fn good_nodes_stand_together<M: Copy>()
     ensures { Stands M }
 {}
@@ -119,9 +120,9 @@ pub fn round_can_be_heard()
 {}
 
 /// There is a run of good nodes as `good_nodes_stand_together` asks for it: over as many rounds as clocks can
-/// show, with clocks that start apart and lose time, messages that are delayed and hold anything, and
-/// listeners that are told of anything in the slots of faulty nodes, and of anything on other wires in those
-/// of good ones.
+/// show, with clocks that start apart and lose time, messages that are delayed and hold anything, listeners
+/// that are told of anything in the slots of faulty nodes, and of anything on other wires in those of good
+/// ones, and nodes that turn away anything but what good ones say in a round.
 pub fn run_can_be_given<M: Copy>()
     ensures { RunCanBeGiven M }
 {}
