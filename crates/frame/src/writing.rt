@@ -29,14 +29,23 @@ impl Turn {
         ensures memory { memory.new ≡ cond (is_ok result) (with_frame self.now (V.value values) memory.old) memory.old }
         ensures fit { OnOk result (FirstFit (V.value values) (value_count_of self.now)) }
     {
+        let length = self.fitting_memory(memory)?;
+        memory[..HEADER_LENGTH].copy_from_slice(&self.header());
+        values.fill(&mut memory[HEADER_LENGTH..length]);
+        Ok(length)
+    }
+
+    /// Whether memory has room for the frame, whose length is answered; memory that is too short is refused, 7 at its
+    /// length.
+    pub fn fitting_memory(&self, memory: &[u8]) -> Result<usize, Refusal>
+        ensures { ByRows (too_short self.now memory.now) (λ e. e) (λ length. length ≡ frame_length_of self.now) result }
+    {
         let length = self.frame_length();
         if memory.len() < length {
             return Err(Refusal::Length {
                 length: memory.len(),
             });
         }
-        memory[..HEADER_LENGTH].copy_from_slice(&self.header());
-        values.fill(&mut memory[HEADER_LENGTH..length]);
         Ok(length)
     }
 }

@@ -1,0 +1,2 @@
+mod Completing
+mod Receiving

@@ -1,0 +1,10 @@
+pub mod Refusals
+pub mod Config
+pub mod Nodes
+pub mod Starting
+pub mod Due
+pub mod Events
+pub mod Calls
+pub mod Sending
+pub mod Hearing
+pub mod Ending
