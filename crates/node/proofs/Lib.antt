@@ -1,2 +1,3 @@
 mod Completing
 mod Receiving
+mod Cycling

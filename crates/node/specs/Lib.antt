@@ -8,3 +8,5 @@ pub mod Calls
 pub mod Sending
 pub mod Hearing
 pub mod Ending
+pub mod Runs
+pub mod Possible
