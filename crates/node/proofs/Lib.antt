@@ -1,3 +1,5 @@
 mod Completing
 mod Receiving
-mod Cycling
+mod Open
+mod Accepted
+mod Stages

@@ -115,10 +115,16 @@ all_told : (t : Turn) (table : List ℕ) → t.sender < t.cluster.nodes → firs
 all_told t table known =
     ap (λ n. map (slice_index (told_from t table)) (range_with_len 0 n)) (sym (paths_are_as_many t.cluster.nodes t.sender (place_of t) known)) ∙ told_by_index t table
 
+-- and what is heard of a payload that has these values
+pub heard_as_told : (t : Turn) (table payload : List ℕ) → t.sender < t.cluster.nodes →
+    values_in payload ≡ first_values (slice_index (told_from t table)) (value_count_of t) → heard_in t payload ≡ told_from t table
+heard_as_told t table payload known same =
+    ap (λ values. map (slice_index values) (range_with_len 0 (length (paths_of t)))) (same ∙ all_told t table known) ∙ told_by_index t table
+
 pub relays : Relays
 relays t table memory old new deviation (Whole ahead payload) known fit received entered =
-    let same : values_in payload.now ≡ told_from t table = (received_whole t (slice_index (told_from t table)) memory deviation (Whole ahead payload) fit received).1 ∙ all_told t table known in
-    let heard : heard_in t payload.now ≡ told_from t table = ap (λ values. map (slice_index values) (range_with_len 0 (length (paths_of t)))) same ∙ told_by_index t table in
+    let same = (received_whole t (slice_index (told_from t table)) memory deviation (Whole ahead payload) fit received).1 in
+    let heard : heard_in t payload.now ≡ told_from t table = heard_as_told t table payload.now known same in
     let own : Entered t (told_from t table) old new = rw heard at entered in
     record { entered = own; held = held_of t (held_for t.cluster table) old new own }
 relays t table memory old new deviation (TurnedAway refusal) known fit received entered =

@@ -1,0 +1,374 @@
+-- What is known of a node behind each call of a run: no call is turned away, so behind the calls of a round it is in the next one. Assumes nothing.
+use Rattle.std.proofs.Common.{◌≡◌, ℕ, ℤ, zero, suc, ◌+◌, ◌*◌, ◌%◌, ◌<◌, ◌≤◌, min, Bool, true, false, cond, nat_lt, ◌==◌, ◌&&◌, ◌||◌, List, length, get_or, slice_set, Some, None, Option, MatchOption, not, ◌⊎◌, is_none, refl, sym, ap, subst, ◌∙◌, inl, inr, add-mul, mul-le-mul_left, arith}
+use Rattle.std.specs.Option.{option_map}
+use Rattle.std.specs.List.{find, range_with_len}
+use Rattle.std.proofs.lemmas.Bool.{cases_Bool, cases_eq, cases_lt, eq-eqb, ne_eqb, eqb-true}
+use Rattle.std.proofs.lemmas.Bool.Decides.{nat_tests}
+use Rattle.std.proofs.lemmas.List.{length-set, get_or-set_same, get_or-set_other}
+use Rattle.midpoint.specs.Refusals.{Row, first_applying}
+use Rattle.midpoint.specs.Setting.{clock_limit}
+use Rattle.clock.specs.Deviation.{largest}
+use Rattle.clock.specs.Rounds.{GoodNode}
+use Rattle.schedule.specs.Config.{timing_of}
+use Rattle.schedule.specs.Listening.{heard_in}
+use Rattle.schedule.specs.Runs.{answered}
+use Rattle.schedule.specs.declared.listening.Received.{Received}
+use Rattle.schedule.specs.Slots.{Timing, slot_of, slot_start, send_time_of, slot_end_of, round_end_of}
+use Rattle.schedule.specs.declared.limits.Schedule.{Schedule}
+use Rattle.frame.specs.Layout.{frame_length_of}
+use Rattle.frame.specs.Reading.{untaken}
+use Rattle.frame.specs.declared.turn.Turn.{Turn}
+use Rattle.relay.specs.Nodes.{among, added}
+use Rattle.relay.specs.Tables.{table_length_of}
+use Rattle.relay.specs.Telling.{told_from, Entered}
+use Rattle.relay.specs.Theorems.{turn_in}
+use Rattle.node.specs.Nodes.{turn_of, reads_first, read_in, written_in}
+use Rattle.node.specs.Calls.{unsent, unheard, unended, Leaves, Passed}
+use Rattle.node.specs.Due.{call_of, call_for, time_of, due_of, next_slot}
+use Rattle.node.specs.Sending.{SentBy, NothingSent, Sent}
+use Rattle.node.specs.Hearing.{taken, values_of, deviation_of_taken, HeardBy, NothingDone}
+use Rattle.node.specs.Ending.{EndedBy}
+use Rattle.node.specs.Runs.{Run, on_bus, listened, Does, Called, Lawful, Started, slot_due, reads, writes}
+use Rattle.node.specs.declared.refusal.Refusal.{Refusal}
+use Rattle.node.specs.declared.state.Node.{Node}
+use Rattle.node.specs.declared.due.Call.{Call}
+use Rattle.node.specs.declared.due.Call.TheVariants.{Send, SlotOver, RoundOver}
+use Rattle.node.specs.declared.due.Due.{Due}
+use Rattle.node.proofs.Open.{finds, finds_none}
+use Rattle.node.proofs.Accepted.{Timely, sending_taken, hearing_taken, ending_taken, does_not_stop}
+
+-- both tables have a length if the two by their roles have it
+pub by_role : (round m : ℕ) (first second : List ℕ) → length (read_in round first second) ≡ m → length (written_in round first second) ≡ m →
+    (length first ≡ m) × (length second ≡ m)
+by_role round m first second =
+    elim (cases_Bool (reads_first round)) [
+      | inl even ↦ rw even (λ a b. (a, b))
+      | inr odd ↦ rw odd (λ a b. (b, a))
+    ]
+
+odd_next : (round : ℕ) → reads_first round ≡ true → reads_first (suc round) ≡ false
+odd_next round even = let e : round % 2 ≡ 0 = eqb-true (round % 2) 0 even in grind (arith, nat_tests, e)
+
+even_next : (round : ℕ) → reads_first round ≡ false → reads_first (suc round) ≡ true
+even_next round odd = grind (arith, nat_tests, odd)
+
+-- which table is read and which is written changes with each round
+pub read_next : (round : ℕ) (first second : List ℕ) → read_in (suc round) first second ≡ written_in round first second
+read_next round first second =
+    elim (cases_Bool (reads_first round)) [
+      | inl even ↦ rw (even, odd_next round even) refl
+      | inr odd ↦ rw (odd, even_next round odd) refl
+    ]
+
+pub written_next : (round : ℕ) (first second : List ℕ) → written_in (suc round) first second ≡ read_in round first second
+written_next round first second =
+    elim (cases_Bool (reads_first round)) [
+      | inl even ↦ rw (even, odd_next round even) refl
+      | inr odd ↦ rw (odd, even_next round odd) refl
+    ]
+
+-- what a call does that no row turns away
+pub done : (rows : List (Row Refusal)) (did kept : Type 0) → first_applying rows ≡ None → Leaves rows did kept → did
+done rows did kept none leaves = subst (λ row. MatchOption row did (λ refusal. kept)) none leaves
+
+-- when calls are due in a round, as long as no number stops
+abbrev sending_at : Schedule → ℕ → ℕ → ℕ
+sending_at s k own = min (send_time_of (timing_of s) (min (slot_of (timing_of s) k own) largest)) largest
+
+abbrev over_at : Schedule → ℕ → ℕ → ℕ
+over_at s k q = min (slot_end_of (timing_of s) (min (slot_of (timing_of s) k q) largest)) largest
+
+module _ (s : Schedule) (r : Run) where
+  abbrev t : Timing
+  t = timing_of s
+
+  abbrev n : ℕ
+  n = s.cluster.nodes
+
+  abbrev slot : ℕ → ℕ → ℕ
+  slot k p = slot_of t k p
+
+  -- what is heard of a node, where its frame is taken in its turn
+  abbrev pub heard_of : ℕ → ℕ → ℕ → Option (Received (List ℕ))
+  heard_of k p q = taken (turn_in s.cluster k q) (answered s (on_bus s r) k p q)
+
+  -- what is entered of a node: of itself what it tells from the table that it reads
+  abbrev pub entered_of : ℕ → ℕ → ℕ → List ℕ
+  entered_of k p q =
+      cond (q == p) (told_from (turn_in s.cluster k p) (read_in k (r.first k p q) (r.second k p q))) (values_of (turn_in s.cluster k q) (heard_of k p q))
+
+  -- the latest that a node's clock has shown
+  abbrev latest : ℕ → ℕ → ℕ
+  latest k zero = slot_start t (slot k 0) + s.pause
+  latest k (suc calls) = slot_end_of t (slot k calls)
+
+  latest_end : (k calls : ℕ) → 4 ≤ calls → latest k calls ≤ (k * n + calls) * s.length
+  latest_end k zero some = absurd (omega (arith, some))
+  latest_end k (suc before) some = let e : slot k before + 1 ≡ k * n + suc before = omega arith in rw (ap (λ m. m * s.length) e) (omega arith)
+
+  -- What is known of a node in a round behind so many calls.
+  pub record Stage (k p calls : ℕ) : Type 0 where
+    pub config : (r.node k p calls).schedule ≡ s
+    pub own : (r.node k p calls).own ≡ p
+    pub counts : (r.node k p calls).clock.round ≡ k
+    pub passed : (q : ℕ) → among (r.node k p calls).over q ≡ nat_lt q calls
+    pub shows : (r.node k p calls).clock.shown ≤ latest k calls
+    pub read_fits : length (read_in k (r.first k p calls) (r.second k p calls)) ≡ table_length_of s.cluster
+    pub write_fits : length (writes r k p calls) ≡ table_length_of s.cluster
+    pub sixteen : length (r.node k p calls).heard ≡ 16
+    pub unheard : (q : ℕ) → calls ≤ q → get_or (r.node k p calls).heard q None ≡ None
+    pub own_unheard : get_or (r.node k p calls).heard p None ≡ None
+    pub heard : (q : ℕ) → q < calls → (q ≡ p → ⊥) → get_or (r.node k p calls).heard q None ≡ deviation_of_taken (heard_of k p q)
+
+  module _ (k p calls : ℕ) (stage : Stage k p calls) where
+    abbrev node : Node
+    node = r.node k p calls
+
+    turn_is : (q : ℕ) → turn_of node q ≡ turn_in s.cluster k q
+    turn_is q = λ i. turn_in (stage.config i).cluster (stage.counts i) q
+
+    next_is : calls < n → next_slot node ≡ Some calls
+    next_is h =
+        ap (λ m. find (λ q. not (among node.over q)) (range_with_len 0 m)) (ap (λ x. x.cluster.nodes) stage.config)
+            ∙ finds (among node.over) calls stage.passed 0 n (omega arith) (omega (arith, h))
+
+    next_is_none : n ≤ calls → next_slot node ≡ None
+    next_is_none h =
+        ap (λ m. find (λ q. not (among node.over q)) (range_with_len 0 m)) (ap (λ x. x.cluster.nodes) stage.config)
+            ∙ finds_none (among node.over) calls stage.passed 0 n (omega (arith, h))
+
+    latest_of : (calls : ℕ) → latest k calls ≤ slot_start t (slot k calls) + s.pause
+    latest_of zero = omega arith
+    latest_of (suc before) = let e : slot k before + 1 ≡ slot k (suc before) = omega arith in rw (ap (λ m. m * s.length) e) (omega arith)
+
+    -- the call that is due
+    due_to_send : calls ≡ p → calls < n → due_of node ≡ record { call = Send; time = sending_at s k p }
+    due_to_send same h =
+        let e : call_of node ≡ Send = ap (call_for node.own) (next_is h) ∙ rw (eq-eqb calls node.own (same ∙ sym stage.own)) refl in
+        ap (λ call. record { call = call; time = time_of node call }) e
+            ∙ (λ i. record { call = Send; time = sending_at (stage.config i) (stage.counts i) (stage.own i) })
+
+    due_to_hear : (calls ≡ p → ⊥) → calls < n → due_of node ≡ record { call = SlotOver calls; time = over_at s k calls }
+    due_to_hear differs h =
+        let e : call_of node ≡ SlotOver calls = ap (call_for node.own) (next_is h) ∙ rw (ne_eqb calls node.own (λ same. differs (same ∙ stage.own))) refl in
+        ap (λ call. record { call = call; time = time_of node call }) e
+            ∙ (λ i. record { call = SlotOver calls; time = over_at (stage.config i) (stage.counts i) calls })
+
+    due_to_end : n ≤ calls → due_of node ≡ record { call = RoundOver; time = min (round_end_of t k) largest }
+    due_to_end h =
+        let e : call_of node ≡ RoundOver = ap (call_for node.own) (next_is_none h) in
+        ap (λ call. record { call = call; time = time_of node call }) e
+            ∙ (λ i. record { call = RoundOver; time = min (round_end_of (timing_of (stage.config i)) (stage.counts i)) largest })
+
+    -- What a call for a slot did.
+    pub record Moved : Type 0 where
+      pub time : ℕ
+      pub passes : Passed node time calls (r.node k p (suc calls))
+      pub in_slot : time ≤ slot_end_of t (slot k calls)
+      pub entered : Entered (turn_in s.cluster k calls) (entered_of k p calls) (writes r k p calls) (writes r k p (suc calls))
+      pub reads_on : read_in k (r.first k p (suc calls)) (r.second k p (suc calls)) ≡ read_in k (r.first k p calls) (r.second k p calls)
+      pub sixteen : length (r.node k p (suc calls)).heard ≡ 16
+      pub others : (q : ℕ) → (q ≡ calls → ⊥) → get_or (r.node k p (suc calls)).heard q None ≡ get_or node.heard q None
+      pub this : get_or (r.node k p (suc calls)).heard calls None ≡ cond (calls == p) None (deviation_of_taken (heard_of k p calls))
+
+    -- so much is known behind it
+    next_stage : calls < n → p < n → Moved → Stage k p (suc calls)
+    next_stage h known moved =
+        let e = moved.passes in
+        record {
+          config = e.its_schedule ∙ stage.config;
+          own = e.its_own ∙ stage.own;
+          counts = e.clock.its_round ∙ stage.counts;
+          passed = λ q. e.its_over q ∙ ap (λ b. (nat_lt calls 16 && (calls == q)) || b) (stage.passed q) ∙ grind (arith, nat_tests, h, s.cluster.most);
+          shows = omega (arith, e.clock.shows, moved.in_slot);
+          read_fits = ap length moved.reads_on ∙ stage.read_fits;
+          write_fits = moved.entered.same_length ∙ stage.write_fits;
+          sixteen = moved.sixteen;
+          unheard = λ q l. moved.others q (λ same. absurd (omega (arith, same, l))) ∙ stage.unheard q (omega (arith, l));
+          own_unheard =
+              elim (cases_eq calls p) [
+                | inl same ↦ ap (λ q. get_or (r.node k p (suc calls)).heard q None) (sym same) ∙ moved.this ∙ rw (eq-eqb calls p same) refl
+                | inr differs ↦ moved.others p (λ same. differs (sym same)) ∙ stage.own_unheard
+              ];
+          heard = λ q l other.
+              elim (cases_eq q calls) [
+                | inl same ↦ ap (λ x. get_or (r.node k p (suc calls)).heard x None) same ∙ moved.this
+                    ∙ rw (ne_eqb calls p (λ e. other (same ∙ e))) (ap (λ x. deviation_of_taken (heard_of k p x)) (sym same))
+                | inr differs ↦ moved.others q differs ∙ stage.heard q (grind (arith, l, differs)) other
+              ];
+        }
+
+    -- A call at a time that the clock shows, and that is not before the slot's pause is over.
+    timely : (time : ℕ) → time < clock_limit → slot_start t (slot k calls) + s.pause ≤ time → Timely node time (r.first k p calls) (r.second k p calls)
+    timely time below late =
+        let needed : table_length_of s.cluster ≡ table_length_of node.schedule.cluster = sym (ap (λ x. table_length_of x.cluster) stage.config) in
+        let (first_fits, second_fits) = by_role k (table_length_of s.cluster) (r.first k p calls) (r.second k p calls) stage.read_fits stage.write_fits in
+        record {
+          below = below;
+          later = omega (arith, stage.shows, latest_of calls, late);
+          first_fits = first_fits ∙ needed;
+          second_fits = second_fits ∙ needed;
+        }
+
+    module _ (called : Called s r k p calls) (h : calls < n) where
+      module _ (same : calls ≡ p) where
+        send_due : (r.at k p calls).shown ≡ sending_at s k p
+        send_due = called.in_time ∙ ap (λ due. due.time) (due_to_send same h)
+
+        pub sends_at : (r.at k p calls).shown ≡ send_time_of t (slot k p)
+        sends_at =
+            send_due
+                ∙ does_not_stop (slot k p) s.length s.pause (omega (arith, s.behind, s.before)) (subst (λ time. time < clock_limit) send_due (r.at k p calls).below)
+
+        did_send : frame_length_of (turn_in s.cluster k p) ≤ length (r.memory k p) →
+            SentBy node (sending_at s k p) (r.first k p calls) (r.second k p calls) (r.memory k p) (r.node k p (suc calls)) (r.first k p (suc calls))
+            (r.second k p (suc calls)) (r.filled k p)
+        did_send room =
+            let does = subst (λ due. Does s r k p calls due.time due.call) (due_to_send same h) called.does in
+            let own : turn_of node node.own ≡ turn_in s.cluster k p = λ i. turn_in (stage.config i).cluster (stage.counts i) (stage.own i) in
+            let time : sending_at s k p ≡ slot_start t (slot k p) + s.pause = sym send_due ∙ sends_at in
+            let long : frame_length_of (turn_of node node.own) ≤ length (r.memory k p) = rw own room in
+            let free : among node.over node.own ≡ false = stage.passed node.own ∙ grind (arith, nat_tests, stage.own, same) in
+            let in_time = timely (sending_at s k p) (subst (λ x. x < clock_limit) send_due (r.at k p calls).below) (rw same (omega (arith, time))) in
+            done (unsent node (sending_at s k p) (r.first k p calls) (r.second k p calls) (r.memory k p)) _ _
+            (sending_taken node (sending_at s k p) (r.first k p calls) (r.second k p calls) in_time (r.memory k p) long free) does
+
+        moved_by_sending : frame_length_of (turn_in s.cluster k p) ≤ length (r.memory k p) → Moved
+        moved_by_sending room =
+            let by = did_send room in
+            let own_turn : turn_of node node.own ≡ turn_in s.cluster k calls = (λ i. turn_in (stage.config i).cluster (stage.counts i) (stage.own i)) ∙ ap (turn_in s.cluster k) (sym same) in
+            let own : node.own ≡ calls = stage.own ∙ sym same in
+            let time : sending_at s k p ≡ slot_start t (slot k p) + s.pause = sym send_due ∙ sends_at in
+            let values : told_from (turn_in s.cluster k calls) (read_in k (r.first k p calls) (r.second k p calls)) ≡ entered_of k p calls =
+            sym (rw (eq-eqb calls p same, same) refl) in
+            record {
+              time = sending_at s k p;
+              passes = subst (λ who. Passed node (sending_at s k p) who (r.node k p (suc calls))) own by.sent.passed;
+              in_slot = rw same (omega (arith, time, add-mul (slot k p) 1 s.length, s.behind));
+              entered = subst (λ told. Entered (turn_in s.cluster k calls) told (writes r k p calls) (writes r k p (suc calls))) values
+                  (subst (λ j. Entered (turn_in s.cluster k calls) (told_from (turn_in s.cluster k calls) (read_in j (r.first k p calls) (r.second k p calls)))
+                  (written_in j (r.first k p calls) (r.second k p calls)) (written_in j (r.first k p (suc calls)) (r.second k p (suc calls)))) stage.counts
+                  (subst (λ u. Entered u (told_from u (read_in node.clock.round (r.first k p calls) (r.second k p calls)))
+                  (written_in node.clock.round (r.first k p calls) (r.second k p calls)) (written_in node.clock.round (r.first k p (suc calls)) (r.second k p (suc calls)))) own_turn
+                  by.sent.entered));
+              reads_on = subst (λ j. read_in j (r.first k p (suc calls)) (r.second k p (suc calls)) ≡ read_in j (r.first k p calls) (r.second k p calls)) stage.counts by.reads_on;
+              sixteen = ap length by.sent.its_heard ∙ stage.sixteen;
+              others = λ q differs. ap (λ heard. get_or heard q None) by.sent.its_heard;
+              this = ap (λ heard. get_or heard calls None) by.sent.its_heard ∙ stage.unheard calls (omega arith) ∙ sym (rw (eq-eqb calls p same) refl);
+            }
+
+      module _ (differs : calls ≡ p → ⊥) where
+        hear_due : (r.at k p calls).shown ≡ over_at s k calls
+        hear_due = called.in_time ∙ ap (λ due. due.time) (due_to_hear differs h)
+
+        hears_at : (r.at k p calls).shown ≡ slot_end_of t (slot k calls)
+        hears_at =
+            let m = min (slot k calls) largest in
+            let split : (m + 1) * s.length ≡ m * s.length + s.length = omega (arith, add-mul m 1 s.length) in
+            let e : (r.at k p calls).shown ≡ min (m * s.length + s.length) largest = hear_due ∙ ap (λ x. min x largest) split in
+            e
+                ∙ does_not_stop (slot k calls) s.length s.length (omega (arith, s.behind, s.before)) (subst (λ time. time < clock_limit) e (r.at k p calls).below)
+                ∙ omega (arith, add-mul (slot k calls) 1 s.length)
+
+        did_hear :
+            HeardBy node (over_at s k calls) calls (listened s r k p calls calls) (r.first k p calls) (r.second k p calls) (r.node k p (suc calls))
+            (r.first k p (suc calls)) (r.second k p (suc calls))
+        did_hear =
+            let does = subst (λ due. Does s r k p calls due.time due.call) (due_to_hear differs h) called.does in
+            let time : over_at s k calls ≡ slot_end_of t (slot k calls) = sym hear_due ∙ hears_at in
+            let free : among node.over calls ≡ false = stage.passed calls ∙ grind (arith, nat_tests) in
+            let known : calls < node.schedule.cluster.nodes = rw stage.config h in
+            let other : (calls == node.own) ≡ false = ne_eqb calls node.own (λ same. differs (same ∙ stage.own)) in
+            let in_time =
+            timely (over_at s k calls) (subst (λ x. x < clock_limit) hear_due (r.at k p calls).below) (omega (arith, time, add-mul (slot k calls) 1 s.length, s.behind)) in
+            done (unheard node (over_at s k calls) calls (r.first k p calls) (r.second k p calls)) _ _
+            (hearing_taken node (over_at s k calls) (r.first k p calls) (r.second k p calls) in_time calls known other free) does
+
+        moved_by_hearing : Moved
+        moved_by_hearing =
+            let by = did_hear in
+            let its = turn_is calls in
+            let time : over_at s k calls ≡ slot_end_of t (slot k calls) = sym hear_due ∙ hears_at in
+            let answers : listened s r k p calls calls ≡ answered s (on_bus s r) k p calls =
+            ap (λ j. heard_in s (slot j calls) (r.opened k p calls) (r.arrived k p calls)) stage.counts in
+            let took : taken (turn_of node calls) (listened s r k p calls calls) ≡ heard_of k p calls = (λ i. taken (its i) (answers i)) in
+            let values : values_of (turn_of node calls) (taken (turn_of node calls) (listened s r k p calls calls)) ≡ entered_of k p calls =
+            (λ i. values_of (its i) (took i)) ∙ sym (rw (ne_eqb calls p differs) refl) in
+            let kept = by.has_heard.its_heard in
+            let long : calls < length node.heard = omega (arith, stage.sixteen, h, s.cluster.most) in
+            record {
+              time = over_at s k calls;
+              passes = by.has_heard.passed;
+              in_slot = omega (arith, time);
+              entered = subst (λ j. Entered (turn_in s.cluster k calls) (entered_of k p calls) (written_in j (r.first k p calls) (r.second k p calls))
+                  (written_in j (r.first k p (suc calls)) (r.second k p (suc calls)))) stage.counts
+                  (subst (λ told. Entered (turn_in s.cluster k calls) told (written_in node.clock.round (r.first k p calls) (r.second k p calls))
+                  (written_in node.clock.round (r.first k p (suc calls)) (r.second k p (suc calls)))) values
+                  (subst (λ u. Entered u (values_of (turn_of node calls) (taken (turn_of node calls) (listened s r k p calls calls)))
+                  (written_in node.clock.round (r.first k p calls) (r.second k p calls)) (written_in node.clock.round (r.first k p (suc calls)) (r.second k p (suc calls)))) its
+                  by.has_heard.entered));
+              reads_on = subst (λ j. read_in j (r.first k p (suc calls)) (r.second k p (suc calls)) ≡ read_in j (r.first k p calls) (r.second k p calls)) stage.counts by.reads_on;
+              sixteen = ap length kept ∙ length-set node.heard calls (deviation_of_taken (taken (turn_of node calls) (listened s r k p calls calls))) ∙ stage.sixteen;
+              others = λ q other. ap (λ heard. get_or heard q None) kept
+                  ∙ get_or-set_other node.heard calls q (deviation_of_taken (taken (turn_of node calls) (listened s r k p calls calls))) None other;
+              this = ap (λ heard. get_or heard calls None) kept
+                  ∙ get_or-set_same node.heard calls (deviation_of_taken (taken (turn_of node calls) (listened s r k p calls calls))) None long
+                  ∙ ap deviation_of_taken took ∙ sym (rw (ne_eqb calls p differs) refl);
+            }
+
+      -- so the call of a slot is taken, whichever it is
+      pub moves : frame_length_of (turn_in s.cluster k p) ≤ length (r.memory k p) → Moved
+      moves room =
+          elim (cases_eq calls p) [
+            | inl same ↦ moved_by_sending same room
+            | inr differs ↦ moved_by_hearing differs
+          ]
+
+  -- what is heard of a node in a round is what the listener answers, or nothing
+  or_nothing : (turn : Turn) (received : Option (Received (List ℕ))) →
+      (deviation_of_taken (taken turn received) ≡ None) ⊎ (deviation_of_taken (taken turn received) ≡ option_map (λ one. one.deviation) received)
+  or_nothing turn None = inl refl
+  or_nothing turn (Some received) =
+      elim (cases_Bool (is_none (first_applying (untaken turn received.message)))) [
+        | inl takes ↦ inr (rw takes refl)
+        | inr turns ↦ inl (rw turns refl)
+      ]
+
+  module _ (k p : ℕ) (stage : Stage k p n) where
+    pub either_heard : (q : ℕ) → q < n →
+        (get_or (r.node k p n).heard q None ≡ None)
+        ⊎ (get_or (r.node k p n).heard q None ≡ option_map (λ received. received.deviation) (answered s (on_bus s r) k p q))
+    either_heard q h =
+        elim (cases_eq q p) [
+          | inl same ↦ inl (ap (λ x. get_or (r.node k p n).heard x None) same ∙ stage.own_unheard)
+          | inr differs ↦ rw (stage.heard q h differs) (or_nothing (turn_in s.cluster k q) (answered s (on_bus s r) k p q))
+        ]
+
+    module _ (called : Called s r k p n) where
+      abbrev last : Node
+      last = r.node k p n
+
+      abbrev time : ℕ
+      time = (r.at k p n).shown
+
+      pub ends_due : time ≡ min (round_end_of t k) largest
+      ends_due = called.in_time ∙ ap (λ due. due.time) (due_to_end k p n stage (omega arith))
+
+      pub ends_at : time ≡ round_end_of t k
+      ends_at = omega (arith, ends_due, (r.at k p n).below)
+
+      pub did_end :
+          EndedBy last (min (round_end_of t k) largest) (r.value (suc k) p) (r.first k p n) (r.second k p n) (r.node (suc k) p 0) (r.first (suc k) p 0)
+          (r.second (suc k) p 0)
+      did_end =
+          let at = min (round_end_of t k) largest in
+          let does = subst (λ due. Does s r k p n due.time due.call) (due_to_end k p n stage (omega arith)) called.does in
+          let needed : table_length_of s.cluster ≡ table_length_of last.schedule.cluster = sym (ap (λ x. table_length_of x.cluster) stage.config) in
+          let (first_fits, second_fits) = by_role k (table_length_of s.cluster) (r.first k p n) (r.second k p n) stage.read_fits stage.write_fits in
+          let in_time : Timely last at (r.first k p n) (r.second k p n) = record {
+            below = omega (arith, ends_due, (r.at k p n).below);
+            later = omega (arith, stage.shows, latest_end k n s.cluster.enough, ends_due, ends_at);
+            first_fits = first_fits ∙ needed;
+            second_fits = second_fits ∙ needed;
+          } in
+          done (unended last at (r.first k p n) (r.second k p n)) _ _ (ending_taken last at (r.first k p n) (r.second k p n) in_time) does
