@@ -4,6 +4,6 @@ mod Fronts
 mod Made
 mod Others
 mod Agreeing
-mod Cycles
+pub mod Cycles
 mod Examples
 mod Possible

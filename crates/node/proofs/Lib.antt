@@ -3,3 +3,6 @@ mod Receiving
 mod Open
 mod Accepted
 mod Stages
+mod Cycling
+mod Settings
+mod Carrying

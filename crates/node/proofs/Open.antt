@@ -1,7 +1,7 @@
 -- The slots that are still open in a round, where those of the first nodes are over. Assumes nothing.
-use Rattle.std.proofs.Common.{◌≡◌, ℕ, zero, suc, ◌+◌, ◌<◌, ◌≤◌, Bool, true, false, not, nat_lt, ◌==◌, List, [], ◌∷◌, Some, None, refl, ap, ◌∙◌, inl, inr, arith}
+use Rattle.std.proofs.Common.{◌≡◌, ℕ, zero, suc, ◌+◌, ◌<◌, ◌≤◌, Bool, true, false, not, nat_lt, [], Some, None, refl, ap, ◌∙◌, inl, inr, arith}
 use Rattle.std.specs.List.{find, filter, range_with_len}
-use Rattle.std.proofs.lemmas.Bool.{cases_eq, lt-ltb, ltb-false}
+use Rattle.std.proofs.lemmas.Bool.{cases_eq, lt-ltb}
 use Rattle.std.proofs.lemmas.Bool.Decides.{nat_tests}
 
 -- the first number of a range that a test does not pass over

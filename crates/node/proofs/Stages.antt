@@ -1,14 +1,30 @@
 -- What is known of a node behind each call of a run: no call is turned away, so behind the calls of a round it is in the next one. Assumes nothing.
-use Rattle.std.proofs.Common.{◌≡◌, ℕ, ℤ, zero, suc, ◌+◌, ◌*◌, ◌%◌, ◌<◌, ◌≤◌, min, Bool, true, false, cond, nat_lt, ◌==◌, ◌&&◌, ◌||◌, List, length, get_or, slice_set, Some, None, Option, MatchOption, not, ◌⊎◌, is_none, refl, sym, ap, subst, ◌∙◌, inl, inr, add-mul, mul-le-mul_left, arith}
+use Rattle.std.proofs.Common.{◌≡◌, ℕ, suc, ◌+◌, ◌*◌, ◌%◌, ◌<◌, ◌≤◌, min, true, false, cond, nat_lt, ◌==◌, ◌&&◌, ◌||◌, List, length, get_or, Some, None, Option, MatchOption, not, ◌⊎◌, is_none, refl, sym, ap, subst, ◌∙◌, inl, inr, add-mul, arith}
 use Rattle.std.specs.Option.{option_map}
 use Rattle.std.specs.List.{find, range_with_len}
-use Rattle.std.proofs.lemmas.Bool.{cases_Bool, cases_eq, cases_lt, eq-eqb, ne_eqb, eqb-true}
+use Rattle.std.proofs.lemmas.Bool.{cases_Bool, cases_eq, eq-eqb, ne_eqb, eqb-true}
 use Rattle.std.proofs.lemmas.Bool.Decides.{nat_tests}
-use Rattle.std.proofs.lemmas.List.{length-set, get_or-set_same, get_or-set_other}
+use Rattle.std.proofs.lemmas.List.{length-set, length-replicate, get_or-replicate, get_or_past, get_or-set_same, get_or-set_other}
 use Rattle.midpoint.specs.Refusals.{Row, first_applying}
 use Rattle.midpoint.specs.Setting.{clock_limit}
 use Rattle.clock.specs.Deviation.{largest}
-use Rattle.clock.specs.Rounds.{GoodNode}
+use Rattle.clock.specs.Setting.{settled, readings, next_round_of}
+use Rattle.midpoint.specs.Setting.{most_readings}
+use Rattle.frame.specs.Layout.{place_in_cycle}
+use Rattle.frame.specs.Writing.{written_over}
+use Rattle.relay.specs.Tables.{with_entry}
+use Rattle.relay.specs.Theorems.{EnteredAll}
+use Rattle.agreement.specs.Results.{results_of}
+use Rattle.node.specs.Ending.{missed, value_missed, is_last}
+use Rattle.node.proofs.Open.{none_left}
+use Rattle.schedule.proofs.Passing.{settles_no_farther}
+use Rattle.schedule.proofs.Answered.{none_or_from_slot}
+use Rattle.std.proofs.Common.{ℤ, Bool, [], filter, replicate, mul-le-mul_left}
+use Rattle.node.specs.Runs.{reads}
+use Rattle.std.proofs.lemmas.Bool.{cases_lt, lt-ltb, le-ltb}
+use Rattle.node.specs.Runs.{slot_due}
+use Rattle.schedule.specs.Slots.{send_time_of}
+use Rattle.std.proofs.Common.{◌*◌}
 use Rattle.schedule.specs.Config.{timing_of}
 use Rattle.schedule.specs.Listening.{heard_in}
 use Rattle.schedule.specs.Runs.{answered}
@@ -18,22 +34,20 @@ use Rattle.schedule.specs.declared.limits.Schedule.{Schedule}
 use Rattle.frame.specs.Layout.{frame_length_of}
 use Rattle.frame.specs.Reading.{untaken}
 use Rattle.frame.specs.declared.turn.Turn.{Turn}
-use Rattle.relay.specs.Nodes.{among, added}
+use Rattle.relay.specs.Nodes.{among}
 use Rattle.relay.specs.Tables.{table_length_of}
 use Rattle.relay.specs.Telling.{told_from, Entered}
 use Rattle.relay.specs.Theorems.{turn_in}
 use Rattle.node.specs.Nodes.{turn_of, reads_first, read_in, written_in}
 use Rattle.node.specs.Calls.{unsent, unheard, unended, Leaves, Passed}
 use Rattle.node.specs.Due.{call_of, call_for, time_of, due_of, next_slot}
-use Rattle.node.specs.Sending.{SentBy, NothingSent, Sent}
-use Rattle.node.specs.Hearing.{taken, values_of, deviation_of_taken, HeardBy, NothingDone}
+use Rattle.node.specs.Sending.{SentBy}
+use Rattle.node.specs.Hearing.{taken, values_of, deviation_of_taken, HeardBy}
 use Rattle.node.specs.Ending.{EndedBy}
-use Rattle.node.specs.Runs.{Run, on_bus, listened, Does, Called, Lawful, Started, slot_due, reads, writes}
+use Rattle.node.specs.Runs.{Run, on_bus, listened, Does, Called, writes}
 use Rattle.node.specs.declared.refusal.Refusal.{Refusal}
 use Rattle.node.specs.declared.state.Node.{Node}
-use Rattle.node.specs.declared.due.Call.{Call}
 use Rattle.node.specs.declared.due.Call.TheVariants.{Send, SlotOver, RoundOver}
-use Rattle.node.specs.declared.due.Due.{Due}
 use Rattle.node.proofs.Open.{finds, finds_none}
 use Rattle.node.proofs.Accepted.{Timely, sending_taken, hearing_taken, ending_taken, does_not_stop}
 
@@ -97,14 +111,31 @@ module _ (s : Schedule) (r : Run) where
   entered_of k p q =
       cond (q == p) (told_from (turn_in s.cluster k p) (read_in k (r.first k p q) (r.second k p q))) (values_of (turn_in s.cluster k q) (heard_of k p q))
 
-  -- the latest that a node's clock has shown
-  abbrev latest : ℕ → ℕ → ℕ
-  latest k zero = slot_start t (slot k 0) + s.pause
-  latest k (suc calls) = slot_end_of t (slot k calls)
+  -- when the next call is due
+  abbrev pub next_time : ℕ → ℕ → ℕ → ℕ
+  next_time k p calls = cond (nat_lt calls n) (slot_due s k p calls).time (round_end_of t k)
 
-  latest_end : (k calls : ℕ) → 4 ≤ calls → latest k calls ≤ (k * n + calls) * s.length
-  latest_end k zero some = absurd (omega (arith, some))
-  latest_end k (suc before) some = let e : slot k before + 1 ≡ k * n + suc before = omega arith in rw (ap (λ m. m * s.length) e) (omega arith)
+  -- that is not before the slot has begun, and of a round's first slot not before its pause is over
+  due_behind : (k p calls : ℕ) → slot_start t (slot k calls) + s.pause ≤ (slot_due s k p calls).time
+  due_behind k p calls =
+      elim (cases_eq calls p) [
+        | inl same ↦ rw (eq-eqb calls p same, same) (omega arith)
+        | inr differs ↦ rw (ne_eqb calls p differs) (omega (arith, add-mul (slot k calls) 1 s.length, s.behind))
+      ]
+
+  next_behind : (k p calls : ℕ) → calls < n → slot_end_of t (slot k calls) ≤ next_time k p (suc calls)
+  next_behind k p calls h =
+      elim (cases_lt (suc calls) n) [
+        | inl more ↦
+            let e : slot k calls + 1 ≡ slot k (suc calls) = omega arith in
+            rw (lt-ltb (suc calls) n more) (omega (arith, ap (λ m. m * s.length) e, due_behind k p (suc calls)))
+        | inr none ↦
+            let e : slot k calls + 1 ≡ (k + 1) * n = omega (arith, h, none) in
+            rw (le-ltb (suc calls) n (omega (arith, none))) (omega (arith, ap (λ m. m * s.length) e))
+      ]
+
+  next_of_first : (k p : ℕ) → slot_start t (slot k 0) + s.pause ≤ next_time k p 0
+  next_of_first k p = rw (lt-ltb 0 n (omega (arith, s.cluster.enough))) (due_behind k p 0)
 
   -- What is known of a node in a round behind so many calls.
   pub record Stage (k p calls : ℕ) : Type 0 where
@@ -112,7 +143,7 @@ module _ (s : Schedule) (r : Run) where
     pub own : (r.node k p calls).own ≡ p
     pub counts : (r.node k p calls).clock.round ≡ k
     pub passed : (q : ℕ) → among (r.node k p calls).over q ≡ nat_lt q calls
-    pub shows : (r.node k p calls).clock.shown ≤ latest k calls
+    pub shows : (r.node k p calls).clock.shown ≤ next_time k p calls
     pub read_fits : length (read_in k (r.first k p calls) (r.second k p calls)) ≡ table_length_of s.cluster
     pub write_fits : length (writes r k p calls) ≡ table_length_of s.cluster
     pub sixteen : length (r.node k p calls).heard ≡ 16
@@ -130,35 +161,31 @@ module _ (s : Schedule) (r : Run) where
     next_is : calls < n → next_slot node ≡ Some calls
     next_is h =
         ap (λ m. find (λ q. not (among node.over q)) (range_with_len 0 m)) (ap (λ x. x.cluster.nodes) stage.config)
-            ∙ finds (among node.over) calls stage.passed 0 n (omega arith) (omega (arith, h))
+        ∙ finds (among node.over) calls stage.passed 0 n (omega arith) (omega (arith, h))
 
     next_is_none : n ≤ calls → next_slot node ≡ None
     next_is_none h =
         ap (λ m. find (λ q. not (among node.over q)) (range_with_len 0 m)) (ap (λ x. x.cluster.nodes) stage.config)
-            ∙ finds_none (among node.over) calls stage.passed 0 n (omega (arith, h))
-
-    latest_of : (calls : ℕ) → latest k calls ≤ slot_start t (slot k calls) + s.pause
-    latest_of zero = omega arith
-    latest_of (suc before) = let e : slot k before + 1 ≡ slot k (suc before) = omega arith in rw (ap (λ m. m * s.length) e) (omega arith)
+        ∙ finds_none (among node.over) calls stage.passed 0 n (omega (arith, h))
 
     -- the call that is due
-    due_to_send : calls ≡ p → calls < n → due_of node ≡ record { call = Send; time = sending_at s k p }
+    pub due_to_send : calls ≡ p → calls < n → due_of node ≡ record { call = Send; time = sending_at s k p }
     due_to_send same h =
         let e : call_of node ≡ Send = ap (call_for node.own) (next_is h) ∙ rw (eq-eqb calls node.own (same ∙ sym stage.own)) refl in
         ap (λ call. record { call = call; time = time_of node call }) e
-            ∙ (λ i. record { call = Send; time = sending_at (stage.config i) (stage.counts i) (stage.own i) })
+        ∙ (λ i. record { call = Send; time = sending_at (stage.config i) (stage.counts i) (stage.own i) })
 
-    due_to_hear : (calls ≡ p → ⊥) → calls < n → due_of node ≡ record { call = SlotOver calls; time = over_at s k calls }
+    pub due_to_hear : (calls ≡ p → ⊥) → calls < n → due_of node ≡ record { call = SlotOver calls; time = over_at s k calls }
     due_to_hear differs h =
         let e : call_of node ≡ SlotOver calls = ap (call_for node.own) (next_is h) ∙ rw (ne_eqb calls node.own (λ same. differs (same ∙ stage.own))) refl in
         ap (λ call. record { call = call; time = time_of node call }) e
-            ∙ (λ i. record { call = SlotOver calls; time = over_at (stage.config i) (stage.counts i) calls })
+        ∙ (λ i. record { call = SlotOver calls; time = over_at (stage.config i) (stage.counts i) calls })
 
-    due_to_end : n ≤ calls → due_of node ≡ record { call = RoundOver; time = min (round_end_of t k) largest }
+    pub due_to_end : n ≤ calls → due_of node ≡ record { call = RoundOver; time = min (round_end_of t k) largest }
     due_to_end h =
         let e : call_of node ≡ RoundOver = ap (call_for node.own) (next_is_none h) in
         ap (λ call. record { call = call; time = time_of node call }) e
-            ∙ (λ i. record { call = RoundOver; time = min (round_end_of (timing_of (stage.config i)) (stage.counts i)) largest })
+        ∙ (λ i. record { call = RoundOver; time = min (round_end_of (timing_of (stage.config i)) (stage.counts i)) largest })
 
     -- What a call for a slot did.
     pub record Moved : Type 0 where
@@ -172,7 +199,7 @@ module _ (s : Schedule) (r : Run) where
       pub this : get_or (r.node k p (suc calls)).heard calls None ≡ cond (calls == p) None (deviation_of_taken (heard_of k p calls))
 
     -- so much is known behind it
-    next_stage : calls < n → p < n → Moved → Stage k p (suc calls)
+    pub next_stage : calls < n → p < n → Moved → Stage k p (suc calls)
     next_stage h known moved =
         let e = moved.passes in
         record {
@@ -180,7 +207,7 @@ module _ (s : Schedule) (r : Run) where
           own = e.its_own ∙ stage.own;
           counts = e.clock.its_round ∙ stage.counts;
           passed = λ q. e.its_over q ∙ ap (λ b. (nat_lt calls 16 && (calls == q)) || b) (stage.passed q) ∙ grind (arith, nat_tests, h, s.cluster.most);
-          shows = omega (arith, e.clock.shows, moved.in_slot);
+          shows = omega (arith, e.clock.shows, moved.in_slot, next_behind k p calls h);
           read_fits = ap length moved.reads_on ∙ stage.read_fits;
           write_fits = moved.entered.same_length ∙ stage.write_fits;
           sixteen = moved.sixteen;
@@ -198,29 +225,29 @@ module _ (s : Schedule) (r : Run) where
               ];
         }
 
-    -- A call at a time that the clock shows, and that is not before the slot's pause is over.
-    timely : (time : ℕ) → time < clock_limit → slot_start t (slot k calls) + s.pause ≤ time → Timely node time (r.first k p calls) (r.second k p calls)
-    timely time below late =
+    -- a call at the time at which the next one is due
+    timely : (time : ℕ) → time < clock_limit → time ≡ next_time k p calls → Timely node time (r.first k p calls) (r.second k p calls)
+    timely time below in_time =
         let needed : table_length_of s.cluster ≡ table_length_of node.schedule.cluster = sym (ap (λ x. table_length_of x.cluster) stage.config) in
         let (first_fits, second_fits) = by_role k (table_length_of s.cluster) (r.first k p calls) (r.second k p calls) stage.read_fits stage.write_fits in
         record {
           below = below;
-          later = omega (arith, stage.shows, latest_of calls, late);
+          later = omega (arith, stage.shows, in_time);
           first_fits = first_fits ∙ needed;
           second_fits = second_fits ∙ needed;
         }
 
     module _ (called : Called s r k p calls) (h : calls < n) where
       module _ (same : calls ≡ p) where
-        send_due : (r.at k p calls).shown ≡ sending_at s k p
+        pub send_due : (r.at k p calls).shown ≡ sending_at s k p
         send_due = called.in_time ∙ ap (λ due. due.time) (due_to_send same h)
 
         pub sends_at : (r.at k p calls).shown ≡ send_time_of t (slot k p)
         sends_at =
             send_due
-                ∙ does_not_stop (slot k p) s.length s.pause (omega (arith, s.behind, s.before)) (subst (λ time. time < clock_limit) send_due (r.at k p calls).below)
+            ∙ does_not_stop (slot k p) s.length s.pause (omega (arith, s.behind, s.before)) (subst (λ time. time < clock_limit) send_due (r.at k p calls).below)
 
-        did_send : frame_length_of (turn_in s.cluster k p) ≤ length (r.memory k p) →
+        pub did_send : frame_length_of (turn_in s.cluster k p) ≤ length (r.memory k p) →
             SentBy node (sending_at s k p) (r.first k p calls) (r.second k p calls) (r.memory k p) (r.node k p (suc calls)) (r.first k p (suc calls))
             (r.second k p (suc calls)) (r.filled k p)
         did_send room =
@@ -229,7 +256,8 @@ module _ (s : Schedule) (r : Run) where
             let time : sending_at s k p ≡ slot_start t (slot k p) + s.pause = sym send_due ∙ sends_at in
             let long : frame_length_of (turn_of node node.own) ≤ length (r.memory k p) = rw own room in
             let free : among node.over node.own ≡ false = stage.passed node.own ∙ grind (arith, nat_tests, stage.own, same) in
-            let in_time = timely (sending_at s k p) (subst (λ x. x < clock_limit) send_due (r.at k p calls).below) (rw same (omega (arith, time))) in
+            let in_time = timely (sending_at s k p) (subst (λ x. x < clock_limit) send_due (r.at k p calls).below)
+            (rw (lt-ltb calls n h, eq-eqb calls p same) time) in
             done (unsent node (sending_at s k p) (r.first k p calls) (r.second k p calls) (r.memory k p)) _ _
             (sending_taken node (sending_at s k p) (r.first k p calls) (r.second k p calls) in_time (r.memory k p) long free) does
 
@@ -258,17 +286,17 @@ module _ (s : Schedule) (r : Run) where
             }
 
       module _ (differs : calls ≡ p → ⊥) where
-        hear_due : (r.at k p calls).shown ≡ over_at s k calls
+        pub hear_due : (r.at k p calls).shown ≡ over_at s k calls
         hear_due = called.in_time ∙ ap (λ due. due.time) (due_to_hear differs h)
 
-        hears_at : (r.at k p calls).shown ≡ slot_end_of t (slot k calls)
+        pub hears_at : (r.at k p calls).shown ≡ slot_end_of t (slot k calls)
         hears_at =
             let m = min (slot k calls) largest in
             let split : (m + 1) * s.length ≡ m * s.length + s.length = omega (arith, add-mul m 1 s.length) in
             let e : (r.at k p calls).shown ≡ min (m * s.length + s.length) largest = hear_due ∙ ap (λ x. min x largest) split in
             e
-                ∙ does_not_stop (slot k calls) s.length s.length (omega (arith, s.behind, s.before)) (subst (λ time. time < clock_limit) e (r.at k p calls).below)
-                ∙ omega (arith, add-mul (slot k calls) 1 s.length)
+            ∙ does_not_stop (slot k calls) s.length s.length (omega (arith, s.behind, s.before)) (subst (λ time. time < clock_limit) e (r.at k p calls).below)
+            ∙ omega (arith, add-mul (slot k calls) 1 s.length)
 
         did_hear :
             HeardBy node (over_at s k calls) calls (listened s r k p calls calls) (r.first k p calls) (r.second k p calls) (r.node k p (suc calls))
@@ -280,7 +308,8 @@ module _ (s : Schedule) (r : Run) where
             let known : calls < node.schedule.cluster.nodes = rw stage.config h in
             let other : (calls == node.own) ≡ false = ne_eqb calls node.own (λ same. differs (same ∙ stage.own)) in
             let in_time =
-            timely (over_at s k calls) (subst (λ x. x < clock_limit) hear_due (r.at k p calls).below) (omega (arith, time, add-mul (slot k calls) 1 s.length, s.behind)) in
+            timely (over_at s k calls) (subst (λ x. x < clock_limit) hear_due (r.at k p calls).below)
+            (rw (lt-ltb calls n h, ne_eqb calls p differs) time) in
             done (unheard node (over_at s k calls) calls (r.first k p calls) (r.second k p calls)) _ _
             (hearing_taken node (over_at s k calls) (r.first k p calls) (r.second k p calls) in_time calls known other free) does
 
@@ -323,6 +352,13 @@ module _ (s : Schedule) (r : Run) where
             | inl same ↦ moved_by_sending same room
             | inr differs ↦ moved_by_hearing differs
           ]
+
+  pub none_there : (q : ℕ) → get_or {A = Option ℤ} (replicate 16 None) q None ≡ None
+  none_there q =
+      elim (cases_lt q 16) [
+        | inl h ↦ get_or-replicate 16 q None None h
+        | inr h ↦ get_or_past (replicate 16 None) q None (omega (arith, h, length-replicate {A = Option ℤ} 16 None))
+      ]
 
   -- what is heard of a node in a round is what the listener answers, or nothing
   or_nothing : (turn : Turn) (received : Option (Received (List ℕ))) →
@@ -367,8 +403,111 @@ module _ (s : Schedule) (r : Run) where
           let (first_fits, second_fits) = by_role k (table_length_of s.cluster) (r.first k p n) (r.second k p n) stage.read_fits stage.write_fits in
           let in_time : Timely last at (r.first k p n) (r.second k p n) = record {
             below = omega (arith, ends_due, (r.at k p n).below);
-            later = omega (arith, stage.shows, latest_end k n s.cluster.enough, ends_due, ends_at);
+            later = let shows : last.clock.shown ≤ round_end_of t k = rw (le-ltb n n (omega arith)) at stage.shows in omega (arith, shows, ends_due, ends_at);
             first_fits = first_fits ∙ needed;
             second_fits = second_fits ∙ needed;
           } in
           done (unended last at (r.first k p n) (r.second k p n)) _ _ (ending_taken last at (r.first k p n) (r.second k p n) in_time) does
+
+      -- what the end of the round left
+      pub sets_to : (r.node (suc k) p 0).clock.shown ≡ settled s.cluster.faults time (readings n p time last.heard)
+      sets_to =
+          let at : min (round_end_of t k) largest ≡ time = sym ends_due in
+          did_end.ended.shows
+          ∙ (λ i. settled (stage.config i).cluster.faults (at i) (readings (stage.config i).cluster.nodes (stage.own i) (at i) last.heard))
+
+      pub counts_on : (r.node (suc k) p 0).clock.round ≡ next_round_of k
+      counts_on = did_end.ended.its_round ∙ ap next_round_of stage.counts
+
+      -- all slots were over, so nothing was entered for any
+      same_whole : did_end.ended.whole ≡ writes r k p n
+      same_whole =
+          let ended = did_end.ended in
+          let none : missed last ≡ [] =
+          ap (λ m. filter (λ q. not (among last.over q)) (range_with_len 0 m)) (ap (λ x. x.cluster.nodes) stage.config)
+          ∙ none_left (among last.over) n stage.passed 0 n (omega arith) in
+          let written = written_in last.clock.round (r.first k p n) (r.second k p n) in
+          let reads = read_in last.clock.round (r.first k p n) (r.second k p n) in
+          let whole : ended.whole ≡ written =
+          subst (λ senders. EnteredAll last.schedule.cluster last.clock.round (value_missed last reads) senders written ended.whole) none ended.completed in
+          whole ∙ ap (λ j. written_in j (r.first k p n) (r.second k p n)) stage.counts
+
+      pub last_of_cycle : is_last last ≡ (place_in_cycle s.cluster k == s.cluster.faults)
+      last_of_cycle = λ i. place_in_cycle (stage.config i).cluster (stage.counts i) == (stage.config i).cluster.faults
+
+      pub reads_next :
+          reads r (suc k) p ≡ cond (place_in_cycle s.cluster k == s.cluster.faults) (with_entry s.cluster [] (r.value (suc k) p) (writes r k p n)) (writes r k p n)
+      reads_next =
+          read_next k (r.first (suc k) p 0) (r.second (suc k) p 0)
+          ∙ ap (λ j. written_in j (r.first (suc k) p 0) (r.second (suc k) p 0)) (sym stage.counts)
+          ∙ did_end.ended.begins
+          ∙ (λ i. cond (last_of_cycle i) (with_entry (stage.config i).cluster [] (r.value (suc k) p) (same_whole i)) (same_whole i))
+
+      pub results_next : place_in_cycle s.cluster k ≡ s.cluster.faults →
+          (r.node (suc k) p 0).results ≡ Some (written_over (results_of s.cluster (writes r k p n)) (replicate most_readings 0))
+      results_next is =
+          let all : is_last last ≡ true = last_of_cycle ∙ eq-eqb (place_in_cycle s.cluster k) s.cluster.faults is in
+          did_end.ended.its_results
+          ∙ ap (λ b. cond b (Some (written_over (results_of last.schedule.cluster did_end.ended.whole) (replicate most_readings 0))) last.results) all
+          ∙ (λ i. Some (written_over (results_of (stage.config i).cluster (same_whole i)) (replicate most_readings 0)))
+
+      -- what was heard is of its slot, so no clock is set farther ahead than by the pause
+      pub set_le : (r.node (suc k) p 0).clock.shown ≤ round_end_of t k + s.pause
+      set_le =
+          let far =
+          settles_no_farther s k time p last.heard
+          (λ q h. none_or_from_slot s (slot k q) (r.opened k p q) (r.arrived k p q) (get_or last.heard q None) (either_heard q h)) in
+          omega (arith, far, sets_to, ends_at)
+
+      long_as : (m : ℕ) (b : Bool) (value : ℕ) (table : List ℕ) → length table ≡ m → length (cond b (with_entry s.cluster [] value table) table) ≡ m
+      long_as m b value table long =
+          elim (cases_Bool b) [
+            | inl is ↦ rw is (length-set table 0 value ∙ long)
+            | inr not ↦ rw not long
+          ]
+
+      -- so much is known as the next round begins
+      pub next_round : Stage (suc k) p 0
+      next_round =
+          let ended = did_end.ended in
+          let first = r.first (suc k) p 0 in
+          let second = r.second (suc k) p 0 in
+          let turn : (k + 1) * 1 ≤ (k + 1) * n = mul-le-mul_left (k + 1) (omega (arith, s.cluster.enough)) in
+          let long : (k + 1) * n * 1 ≤ (k + 1) * n * s.length = mul-le-mul_left ((k + 1) * n) (omega (arith, s.behind, s.before)) in
+          record {
+            config = ended.its_schedule ∙ stage.config;
+            own = ended.its_own ∙ stage.own;
+            counts = counts_on ∙ omega (arith, turn, long, ends_at, (r.at k p n).below);
+            passed = λ q. ended.its_over q ∙ grind (arith, nat_tests);
+            shows = let e : slot (suc k) 0 ≡ (k + 1) * n = omega arith in omega (arith, set_le, ap (λ m. m * s.length) e, next_of_first (suc k) p);
+            read_fits =
+                ap length reads_next
+                ∙ long_as (table_length_of s.cluster) (place_in_cycle s.cluster k == s.cluster.faults) (r.value (suc k) p) (writes r k p n) stage.write_fits;
+            write_fits =
+                ap length (written_next k first second ∙ ap (λ j. read_in j first second) (sym stage.counts) ∙ did_end.reads_on
+                ∙ ap (λ j. read_in j (r.first k p n) (r.second k p n)) stage.counts) ∙ stage.read_fits;
+            sixteen = ap length ended.its_heard ∙ length-replicate {A = Option ℤ} 16 None;
+            unheard = λ q l. ap (λ heard. get_or heard q None) ended.its_heard ∙ none_there q;
+            own_unheard = ap (λ heard. get_or heard p None) ended.its_heard ∙ none_there p;
+            heard = λ q l other. absurd (omega (arith, l));
+          }
+
+  -- So what is due for a slot is due at its time, and what is due as the round ends too.
+  pub slot_due_is : (k p calls : ℕ) → Stage k p calls → Called s r k p calls → calls < n → due_of (r.node k p calls) ≡ slot_due s k p calls
+  slot_due_is k p calls stage called h =
+      elim (cases_eq calls p) [
+        | inl same ↦
+            due_to_send k p calls stage same h
+            ∙ ap (λ time. record { call = Send; time = time }) (sym (send_due k p calls stage called h same) ∙ sends_at k p calls stage called h same)
+            ∙ sym (rw (eq-eqb calls p same) refl)
+        | inr differs ↦
+            due_to_hear k p calls stage differs h
+            ∙ ap (λ time. record { call = SlotOver calls; time = time })
+            (sym (hear_due k p calls stage called h differs) ∙ hears_at k p calls stage called h differs)
+            ∙ sym (rw (ne_eqb calls p differs) refl)
+      ]
+
+  pub end_due_is : (k p : ℕ) (stage : Stage k p n) → Called s r k p n → due_of (r.node k p n) ≡ record { call = RoundOver; time = round_end_of t k }
+  end_due_is k p stage called =
+      due_to_end k p n stage (omega arith)
+      ∙ ap (λ time. record { call = RoundOver; time = time }) (sym (ends_due k p stage called) ∙ ends_at k p stage called)

@@ -10,3 +10,4 @@ pub mod Hearing
 pub mod Ending
 pub mod Runs
 pub mod Possible
+pub mod Settings

@@ -117,10 +117,18 @@ pub record Lawful (s : Schedule) (good : ℕ → Bool) (rounds : ℕ) (r : Run) 
   -- and lend memory that is long enough for the frame
   pub room : (k p : ℕ) → k ≤ rounds → GoodNode s.cluster good p → frame_length_of (turn_in s.cluster k p) ≤ length (r.memory k p)
 
--- How a good node is made: at some local time, with the value that it gives in its first cycle, and with two tables as long as the cluster needs.
+-- the call for a slot of a round, and its time
+abbrev pub slot_due : Schedule → ℕ → ℕ → ℕ → Due
+slot_due s k p q =
+    cond (q == p) (record { call = Send; time = send_time_of (timing_of s) (slot_of (timing_of s) k p) })
+    (record { call = SlotOver q; time = slot_end_of (timing_of s) (slot_of (timing_of s) k q) })
+
+-- How a good node is made: at a local time at which its first call is not over yet, with the value that it gives in its first cycle, and with two tables as long as
+-- the cluster needs.
 pub record Begins (s : Schedule) (r : Run) (p : ℕ) : Type 0 where
   pub time : ℕ
   pub old : List ℕ
+  pub early : time ≤ (slot_due s 0 p 0).time
   pub made : Made s p time (r.node 0 p 0)
   pub fits : length old ≡ table_length_of s.cluster
   pub first : r.first 0 p 0 ≡ with_entry s.cluster [] (r.value 0 p) old
@@ -131,12 +139,6 @@ pub record Started (s : Schedule) (good : ℕ → Bool) (r : Run) : Type 0 where
   pub begins : (p : ℕ) → GoodNode s.cluster good p → Begins s r p
   pub near : Apart s.cluster good (bound_of s.cluster) ((on_bus s r).starts 0)
   pub listens : (p q : ℕ) → GoodNode s.cluster good p → GoodNode s.cluster good q → (p ≢ q) → r.begun 0 p ≤ (r.begins 0 p q).common
-
--- the call for a slot of a round, and its time
-abbrev pub slot_due : Schedule → ℕ → ℕ → ℕ → Due
-slot_due s k p q =
-    cond (q == p) (record { call = Send; time = send_time_of (timing_of s) (slot_of (timing_of s) k p) })
-    (record { call = SlotOver q; time = slot_end_of (timing_of s) (slot_of (timing_of s) k q) })
 
 -- the table that a node reads in a round, and the one that it writes, behind so many calls
 abbrev pub reads : Run → ℕ → ℕ → List ℕ

@@ -22,6 +22,7 @@ pub mod hearing;
 pub mod refusal;
 pub mod sending;
 pub mod state;
+pub mod theorems;
 
 pub use config::Config;
 pub use due::{Call, Due};
