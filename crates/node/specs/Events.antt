@@ -8,7 +8,7 @@ use Rattle.frame.specs.Reading.{Receives, code_of_reception}
 use Rattle.frame.specs.declared.turn.Turn.{Turn}
 use Rattle.frame.specs.declared.reading.Reception.{Reception}
 use Rattle.frame.specs.declared.reading.Reception.TheVariants.{Whole, TurnedAway}
-use Rattle.relay.specs.Telling.{nothing_heard, Entered, EntersReception}
+use Rattle.relay.specs.Telling.{heard_in, nothing_heard}
 use Rattle.node.specs.declared.event.Event.{Event}
 use Rattle.node.specs.declared.event.Event.TheVariants.{Nothing, Frame}
 
@@ -40,7 +40,11 @@ abbrev pub deviation_in : Event → Option ℤ
 deviation_in Nothing = None
 deviation_in (Frame reception) = deviation_of_reception reception
 
--- what is entered of it
-abbrev pub EntersEvent : Turn → Event → List ℕ → List ℕ → Type 0
-EntersEvent t Nothing old new = Entered t (nothing_heard t) old new
-EntersEvent t (Frame reception) old new = EntersReception t reception old new
+-- the values that are entered of it
+abbrev pub values_of_reception : Turn → Reception → List ℕ
+values_of_reception t (Whole deviation payload) = heard_in t payload.now
+values_of_reception t (TurnedAway refusal) = nothing_heard t
+
+abbrev pub values_in : Turn → Event → List ℕ
+values_in t Nothing = nothing_heard t
+values_in t (Frame reception) = values_of_reception t reception

@@ -2,8 +2,8 @@
 ghost use Rattle.std.specs.Prelude.{◌≡◌};
 ghost use Rattle.std.specs.Result.{MatchResult};
 ghost use Rattle.midpoint.specs.Refusals.{ByRows};
-ghost use Rattle.relay.specs.Telling.{untold};
-ghost use Rattle.node.specs.Events.{bytes_heard, Becomes, deviation_in, code_of_event, EntersEvent};
+ghost use Rattle.relay.specs.Telling.{untold, Entered};
+ghost use Rattle.node.specs.Events.{bytes_heard, Becomes, deviation_in, code_of_event, values_in};
 
 use frame::{Reception, Turn};
 use midpoint::Code;
@@ -53,7 +53,7 @@ impl<'a> Event<'a> {
     // Enters its values into the table that is written.
     pub(crate) fn enter(self, turn: &Turn, written: &mut [u32]) -> Result<(), relay::Refusal>
         ensures answer { ByRows (untold turn.now written.old) (λ e. e) (λ _. Unit {0}) result }
-        ensures table { MatchResult result (λ _. EntersEvent turn.now self.entry written.old written.new) (λ _. written.new ≡ written.old) }
+        ensures table { MatchResult result (λ _. Entered turn.now (values_in turn.now self.entry) written.old written.new) (λ _. written.new ≡ written.old) }
     {
         match self {
             Event::Frame(reception) => enter_reception(turn, reception, written),

@@ -1,12 +1,14 @@
 //! The end of another node's slot.
-ghost use Rattle.std.specs.Prelude.{◌≡◌, ◌<◌, slice_set};
+ghost use Rattle.std.specs.Prelude.{◌≡◌, ◌<◌, length, slice_set};
 ghost use Rattle.std.specs.Result.{MatchResult};
 ghost use Rattle.midpoint.specs.Refusals.{ByRows};
 ghost use Rattle.midpoint.specs.Setting.{most_readings};
+ghost use Rattle.relay.specs.Tables.{table_length_of};
+ghost use Rattle.relay.specs.Telling.{Entered};
 ghost use Rattle.node.specs.Nodes.{turn_of};
 ghost use Rattle.node.specs.Calls.{unheard, unheard_in};
-ghost use Rattle.node.specs.Events.{bytes_heard, Becomes};
-ghost use Rattle.node.specs.Hearing.{Hears, HasHeard};
+ghost use Rattle.node.specs.Events.{bytes_heard, Becomes, deviation_in};
+ghost use Rattle.node.specs.Hearing.{Hears, HasHeard, taken, values_of, deviation_of_taken};
 
 use crate::calls::out_of_turn;
 use crate::event::Event;
@@ -54,9 +56,7 @@ impl Node {
         ensures leaves { MatchResult result (λ step. HasHeard self time sender (bytes_heard heard.entry) written.old step.node written.new) (λ _. written.new ≡ written.old) }
     {
         let clock = self.at(time, self.can_hear(sender, read, written))?;
-        let turn = self.turn(sender);
-        let event = Event::of(&turn, heard);
-        event.enter(&turn, written)?;
+        let event = self.receive(sender, heard, written);
         let node = self.passed(clock, sender, self.heard_with(sender, event.deviation()));
         Ok(Step {
             node,
@@ -76,6 +76,26 @@ impl Node {
             return Err(out_of_turn());
         }
         Ok(())
+    }
+
+    // What came in the slot of a node, whose values it enters into the table that is written.
+    #[tactic(auto, using(crate::proofs::Receiving::deviation_as, crate::proofs::Receiving::values_as))]
+    fn receive<'a>(
+        &self,
+        sender: u8,
+        heard: Option<Received<&'a [u8]>>,
+        written: &mut [u32],
+    ) -> Event<'a>
+        requires known { sender < self.now.schedule.cluster.nodes }
+        requires writes { length written.old ≡ table_length_of self.now.schedule.cluster }
+        ensures event { Becomes (turn_of self.now sender) (bytes_heard heard.entry) result }
+        ensures deviation { deviation_in result ≡ deviation_of_taken (taken (turn_of self.now sender) (bytes_heard heard.entry)) }
+        ensures entered { Entered (turn_of self.now sender) (values_of (turn_of self.now sender) (taken (turn_of self.now sender) (bytes_heard heard.entry))) written.old written.new }
+    {
+        let turn = self.turn(sender);
+        let event = Event::of(&turn, heard);
+        event.enter(&turn, written).unwrap();
+        event
     }
 
     // What was heard of each node, with the deviation of one more.

@@ -1,8 +1,11 @@
 //! The own slot's time to send.
-ghost use Rattle.std.specs.Prelude.{◌≡◌, true, false};
+ghost use Rattle.std.specs.Prelude.{◌≡◌, ◌<◌, ◌≤◌, length, slice_index};
 ghost use Rattle.std.specs.Result.{MatchResult};
 ghost use Rattle.midpoint.specs.Refusals.{ByRows};
-ghost use Rattle.frame.specs.Layout.{frame_length_of};
+ghost use Rattle.frame.specs.Layout.{frame_length_of, value_count_of};
+ghost use Rattle.frame.specs.Writing.{FirstFit, with_frame};
+ghost use Rattle.relay.specs.Tables.{table_length_of};
+ghost use Rattle.relay.specs.Telling.{told_from, Entered};
 ghost use Rattle.node.specs.Nodes.{turn_of};
 ghost use Rattle.node.specs.Calls.{unsent, unsent_in};
 ghost use Rattle.node.specs.Sending.{Sends, Sent};
@@ -50,9 +53,7 @@ impl Node {
     {
         let turn = self.turn(self.own);
         let clock = self.at(time, self.can_send(&turn, read, written, memory))?;
-        let telling = Telling::new(turn, read)?;
-        let answer = telling.write(memory)?;
-        telling.enter(written)?;
+        let answer = self.tell(read, written, memory);
         let node = self.passed(clock, self.own, self.heard);
         Ok(Step { node, answer })
     }
@@ -73,5 +74,21 @@ impl Node {
             return Err(out_of_turn());
         }
         Ok(())
+    }
+
+    // Writes what it tells into memory, enters it into the table that is written, and answers the frame's length.
+    fn tell(&self, read: &[u32], written: &mut [u32], memory: &mut [u8]) -> usize
+        requires reads { length read.now ≡ table_length_of self.now.schedule.cluster }
+        requires writes { length written.old ≡ table_length_of self.now.schedule.cluster }
+        requires room { frame_length_of (turn_of self.now self.now.own) ≤ length memory.old }
+        ensures length { result ≡ frame_length_of (turn_of self.now self.now.own) }
+        ensures frame { memory.new ≡ with_frame (turn_of self.now self.now.own) (slice_index (told_from (turn_of self.now self.now.own) read.now)) memory.old }
+        ensures fits { FirstFit (slice_index (told_from (turn_of self.now self.now.own) read.now)) (value_count_of (turn_of self.now self.now.own)) }
+        ensures entered { Entered (turn_of self.now self.now.own) (told_from (turn_of self.now self.now.own) read.now) written.old written.new }
+    {
+        let telling = Telling::new(self.turn(self.own), read).unwrap();
+        let length = telling.write(memory).unwrap();
+        telling.enter(written).unwrap();
+        length
     }
 }
