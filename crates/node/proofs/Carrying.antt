@@ -25,7 +25,7 @@ use Rattle.relay.proofs.Relaying.{heard_as_told}
 use Rattle.node.specs.Nodes.{turn_of, read_in}
 use Rattle.node.specs.Hearing.{taken, values_of, deviation_of_taken}
 use Rattle.node.specs.Runs.{Run, on_bus, sent, Called, Lawful, Started, Standing, Stands, reads, writes}
-use Rattle.node.proofs.Stages.{Stage, Moved, heard_of, entered_of, moves, next_stage, next_round, none_there, sends_at, did_send, either_heard, ends_at, sets_to, counts_on, reads_next, results_next, slot_due_is, end_due_is}
+use Rattle.node.proofs.Stages.{Stage, Moved, heard_of, entered_of, moves, next_stage, next_round, none_there, sends_at, did_send, either_heard, ends_at, sets_to, counts_on, reads_next, results_next, comes, end_due_is}
 use Rattle.node.proofs.Cycling.{Kept, agreed}
 
 module _ (s : Schedule) (good : ℕ → Bool) (rounds : ℕ) (r : Run) (law : Lawful s good rounds r) (start : Started s good r) where
@@ -40,16 +40,18 @@ module _ (s : Schedule) (good : ℕ → Bool) (rounds : ℕ) (r : Run) (law : La
       let made = start.begins p g in
       let node = r.node 0 p 0 in
       record {
-        config = made.made.its_schedule;
-        own = made.made.its_own;
-        counts = made.made.its_round;
-        passed = λ q. made.made.its_over q ∙ grind (arith, nat_tests);
-        shows = rw (lt-ltb 0 n (omega (arith, s.cluster.enough))) (omega (arith, made.made.shows, made.early));
-        read_fits = ap length made.first ∙ length-set made.old 0 (r.value 0 p) ∙ made.fits;
+        place = record {
+          config = made.made.made.its_schedule;
+          own = made.made.made.its_own;
+          counts = made.made.made.its_round;
+          passed = λ q. made.made.made.its_over q ∙ grind (arith, nat_tests);
+        };
+        shows = rw (lt-ltb 0 n (omega (arith, s.cluster.enough))) (omega (arith, made.made.made.shows, made.early));
+        read_fits = ap length made.made.first ∙ length-set made.old 0 (r.value 0 p) ∙ made.first_fits;
         write_fits = made.second_fits;
-        sixteen = ap length made.made.its_heard ∙ length-replicate {A = Option ℤ} 16 None;
-        unheard = λ q l. ap (λ heard. get_or heard q None) made.made.its_heard ∙ none_there s r q;
-        own_unheard = ap (λ heard. get_or heard p None) made.made.its_heard ∙ none_there s r p;
+        sixteen = ap length made.made.made.its_heard ∙ length-replicate {A = Option ℤ} 16 None;
+        unheard = λ q l. ap (λ heard. get_or heard q None) made.made.made.its_heard ∙ none_there s r q;
+        own_unheard = ap (λ heard. get_or heard p None) made.made.made.its_heard ∙ none_there s r p;
         heard = λ q l other. absurd (omega (arith, l));
       }
 
@@ -60,8 +62,8 @@ module _ (s : Schedule) (good : ℕ → Bool) (rounds : ℕ) (r : Run) (law : La
   behind k p most h g few called first (suc calls) le =
       let stage = behind k p most h g few called first calls (omega (arith, le)) in
       let now = called calls (omega (arith, le)) in
-      next_stage s r k p calls stage (omega (arith, le, few)) g.0
-      (moves s r k p calls stage now (omega (arith, le, few)) (law.room k p h g))
+      let more : calls < n = omega (arith, le, few) in
+      next_stage s r k p calls stage more now (moves s r k p calls stage more now (law.room k p h g))
 
   stage : (k p : ℕ) → k ≤ rounds → Good p → Stage s r k p 0
   stage zero p h g = begins p g
@@ -76,43 +78,45 @@ module _ (s : Schedule) (good : ℕ → Bool) (rounds : ℕ) (r : Run) (law : La
 
   moved : (k p calls : ℕ) (h : k < rounds) (g : Good p) (le : calls < n) → Moved s r k p calls (within k p calls h g (omega (arith, le)))
   moved k p calls h g le =
-      moves s r k p calls (within k p calls h g (omega (arith, le))) (law.called k p calls h g (omega (arith, le))) le (law.room k p (omega (arith, h)) g)
+      moves s r k p calls (within k p calls h g (omega (arith, le))) le (law.called k p calls h g (omega (arith, le))) (law.room k p (omega (arith, h)) g)
 
-  -- the call with which a node sends, in the next round too
-  sending : (k p : ℕ) → k ≤ rounds → Good p → Stage s r k p p × Called s r k p p
-  sending k p h g =
+  -- up to the call with which a node sends, in the next round too
+  until : (k p calls : ℕ) → k ≤ rounds → Good p → calls ≤ p → Stage s r k p calls × Called s r k p calls
+  until k p calls h g le =
       elim (cases_lt k rounds) [
-        | inl less ↦ (within k p p less g (omega (arith, g.0)), law.called k p p less g (omega (arith, g.0)))
+        | inl less ↦ (within k p calls less g (omega (arith, le, g.0)), law.called k p calls less g (omega (arith, le, g.0)))
         | inr last ↦
             let e : k ≡ rounds = omega (arith, h, last) in
-            subst (λ j. Stage s r j p p × Called s r j p p) (sym e) (
-              behind rounds p p (omega arith) g (omega (arith, g.0)) (λ i l. law.called_next p i g (omega (arith, l))) (stage rounds p (omega arith) g) p (omega arith),
-              law.called_next p p g (omega arith),
+            subst (λ j. Stage s r j p calls × Called s r j p calls) (sym e) (
+              behind rounds p p (omega arith) g (omega (arith, g.0)) (λ i l. law.called_next p i g (omega (arith, l))) (stage rounds p (omega arith) g) calls le,
+              law.called_next p calls g le,
             )
       ]
 
   sends_in_time : (k p : ℕ) → k ≤ rounds → Good p → (r.at k p p).shown ≡ send_time_of (timing_of s) (slot_of (timing_of s) k p)
-  sends_in_time k p h g = let (there, called) = sending k p h g in sends_at s r k p p there called g.0 refl
+  sends_in_time k p h g = let (there, called) = until k p p h g (omega arith) in sends_at s r k p p there g.0 called refl
 
-  -- the table that a node reads stays as it is while the round lasts
-  reads_stay : (k p calls : ℕ) → k < rounds → Good p → calls ≤ n → read_in k (r.first k p calls) (r.second k p calls) ≡ reads r k p
+  -- the table that a node reads is the same until it sends
+  reads_stay : (k p calls : ℕ) → k ≤ rounds → Good p → calls ≤ p → read_in k (r.first k p calls) (r.second k p calls) ≡ reads r k p
   reads_stay k p zero h g le = refl
-  reads_stay k p (suc calls) h g le = (moved k p calls h g (omega (arith, le))).reads_on ∙ reads_stay k p calls h g (omega (arith, le))
+  reads_stay k p (suc calls) h g le =
+      let (there, called) = until k p calls h g (omega (arith, le)) in
+      (moves s r k p calls there (omega (arith, le, g.0)) called (law.room k p h g)).reads_on ∙ reads_stay k p calls h g (omega (arith, le))
 
   -- What a node sends is what it tells from that table, written as a frame.
   record IsFrame (k p : ℕ) : Type 0 where
     fits : FirstFit (slice_index (told_from (turn_in s.cluster k p) (reads r k p))) (value_count_of (turn_in s.cluster k p))
     is : sent r k p ≡ written_frame (turn_in s.cluster k p) (slice_index (told_from (turn_in s.cluster k p) (reads r k p))) (r.memory k p)
 
-  is_frame : (k p : ℕ) → k < rounds → Good p → IsFrame k p
+  is_frame : (k p : ℕ) → k ≤ rounds → Good p → IsFrame k p
   is_frame k p h g =
-      let there = within k p p h g (omega (arith, g.0)) in
-      let by = did_send s r k p p there (law.called k p p h g (omega (arith, g.0))) g.0 refl (law.room k p (omega (arith, h)) g) in
+      let (there, called) = until k p p h g (omega arith) in
+      let by = did_send s r k p p there g.0 called refl (law.room k p h g) in
       let node = r.node k p p in
       let read = read_in node.clock.round (r.first k p p) (r.second k p p) in
-      let turn : turn_of node node.own ≡ turn_in s.cluster k p = (λ i. turn_in (there.config i).cluster (there.counts i) (there.own i)) in
+      let turn : turn_of node node.own ≡ turn_in s.cluster k p = (λ i. turn_in (there.place.config i).cluster (there.place.counts i) (there.place.own i)) in
       let table : read ≡ reads r k p =
-      ap (λ j. read_in j (r.first k p p) (r.second k p p)) there.counts ∙ reads_stay k p p h g (omega (arith, g.0)) in
+      ap (λ j. read_in j (r.first k p p) (r.second k p p)) there.place.counts ∙ reads_stay k p p h g (omega arith) in
       record {
         fits = subst (λ x. FirstFit (slice_index (told_from (turn_in s.cluster k p) x)) (value_count_of (turn_in s.cluster k p))) table
             (subst (λ t. FirstFit (slice_index (told_from t read)) (value_count_of t)) turn by.sent.fits);
@@ -120,7 +124,7 @@ module _ (s : Schedule) (good : ℕ → Bool) (rounds : ℕ) (r : Run) (law : La
             ∙ (λ i. take (frame_length_of (turn i)) (with_frame (turn i) (slice_index (told_from (turn i) (table i))) (r.memory k p)));
       }
 
-  taken_in_turn : (k q : ℕ) → k < rounds → Good q → Taken (turn_in s.cluster k q) (sent r k q)
+  taken_in_turn : (k q : ℕ) → k ≤ rounds → Good q → Taken (turn_in s.cluster k q) (sent r k q)
   taken_in_turn k q h g =
       let frame = is_frame k q h g in
       rw frame.is (round_trip (turn_in s.cluster k q) (slice_index (told_from (turn_in s.cluster k q) (reads r k q))) (r.memory k q) frame.fits).taken
@@ -130,7 +134,7 @@ module _ (s : Schedule) (good : ℕ → Bool) (rounds : ℕ) (r : Run) (law : La
       heard_of s r k p q ≡ Some received
   takes_it k p q received h g answers same =
       let t = turn_in s.cluster k q in
-      let none : first_applying (untaken t received.message) ≡ None = rw same (taken_in_turn k q h g) in
+      let none : first_applying (untaken t received.message) ≡ None = rw same (taken_in_turn k q (omega (arith, h)) g) in
       ap (taken t) answers ∙ rw none refl
 
   duties : Duties s good rounds (on_bus s r)
@@ -142,7 +146,7 @@ module _ (s : Schedule) (good : ℕ → Bool) (rounds : ℕ) (r : Run) (law : La
         let called = law.called k p n h g (omega arith) in
         record {
           its_shown = sets_to s r k p last called;
-          its_round = counts_on s r k p last called ∙ ap next_round_of (sym (stage k p (omega (arith, h)) g).counts);
+          its_round = counts_on s r k p last called ∙ ap next_round_of (sym (stage k p (omega (arith, h)) g).place.counts);
         };
     counts = λ k p h g. refl;
     listened = λ k p q h g l. either_heard s r k p (within k p n h g (omega arith)) q l;
@@ -154,7 +158,7 @@ module _ (s : Schedule) (good : ℕ → Bool) (rounds : ℕ) (r : Run) (law : La
   on_the_bus = record { world = law.world; duties = duties }
 
   started : bus.Started s good (on_bus s r)
-  started = record { near = start.near; first = λ p g. (begins p g).counts; listens = start.listens }
+  started = record { near = start.near; first = λ p g. (begins p g).place.counts; listens = start.listens }
 
   module _ (few : FewBad s.cluster good) where
     bus_stands : bus.Standing s good rounds (on_bus s r)
@@ -167,11 +171,11 @@ module _ (s : Schedule) (good : ℕ → Bool) (rounds : ℕ) (r : Run) (law : La
         elim (cases_eq q p) [
           | inl same ↦
               rw (eq-eqb q p same)
-              (ap (λ x. told_from (turn_in s.cluster k p) x) (reads_stay k p q h gp (omega (arith, gq.0)))
+              (ap (λ x. told_from (turn_in s.cluster k p) x) (reads_stay k p q (omega (arith, h)) gp (omega (arith, same)))
               ∙ ap (λ x. told_from (turn_in s.cluster k x) (reads r k x)) (sym same))
           | inr differs ↦
               let (answers, _) = bus_stands.heard k p q h gp gq (λ e. differs (sym e)) in
-              let frame = is_frame k q h gq in
+              let frame = is_frame k q (omega (arith, h)) gq in
               let values = slice_index (told_from t (reads r k q)) in
               let heard : values_of t (heard_of s r k p q) ≡ heard_in t (payload_of (sent r k q)) = ap (values_of t) (takes_it k p q _ h gq answers refl) in
               rw (ne_eqb q p differs)
@@ -181,19 +185,20 @@ module _ (s : Schedule) (good : ℕ → Bool) (rounds : ℕ) (r : Run) (law : La
 
     kept : Kept s good rounds r (entered_of s r)
     kept = record {
-      begins = λ p g. let made = start.begins p g in (made.old, made.fits, made.first);
+      begins = λ p g. let made = start.begins p g in (made.old, made.first_fits, made.made.first);
       entered = λ k p q h g l. (moved k p q h g l).entered;
       told = told_by;
       fits = λ k p h g. (within k p n h g (omega arith)).write_fits;
       next = λ k p h g. reads_next s r k p (within k p n h g (omega arith)) (law.called k p n h g (omega arith));
-      config = λ k p h g. (stage k p h g).config;
+      config = λ k p h g. (stage k p h g).place.config;
       results = λ k p h g is. results_next s r k p (within k p n h g (omega arith)) (law.called k p n h g (omega arith)) is;
     }
 
     standing : Standing s good rounds r
     standing = record {
       bus_stands = bus_stands;
-      slots = λ k p q h g l. slot_due_is s r k p q (within k p q h g (omega (arith, l))) (law.called k p q h g (omega (arith, l))) l;
+      slots = λ k p q h g l. comes s r k p q (within k p q h g (omega (arith, l))) (law.called k p q h g (omega (arith, l))) l;
+      slots_next = λ p q g le. let (there, called) = until rounds p q (omega arith) g le in comes s r rounds p q there called (omega (arith, le, g.0));
       ends = λ k p h g. end_due_is s r k p (within k p n h g (omega arith)) (law.called k p n h g (omega arith));
       taken = taken_in_turn;
       told = λ k p q h gp gq. subst (λ values. Entered (turn_in s.cluster k q) values (writes r k p q) (writes r k p (suc q))) (told_by k p q h gp gq)

@@ -1,5 +1,5 @@
 -- What came in a slot, as it is entered and as it is kept for the setting. Assumes nothing.
-use Rattle.std.proofs.Common.{◌≡◌, ℕ, List, Some, None, Option, refl, ap, subst}
+use Rattle.std.proofs.Common.{◌≡◌, ℕ, List, Some, None, Option, refl, ap}
 use Rattle.schedule.specs.declared.listening.Received.{Received}
 use Rattle.frame.specs.declared.turn.Turn.{Turn}
 use Rattle.frame.specs.declared.reading.Reception.TheVariants.{Whole, TurnedAway}

@@ -20,7 +20,10 @@ use Rattle.node.proofs.Open.{none_left}
 use Rattle.schedule.proofs.Passing.{settles_no_farther}
 use Rattle.schedule.proofs.Answered.{none_or_from_slot}
 use Rattle.std.proofs.Common.{ℤ, Bool, [], filter, replicate, mul-le-mul_left}
-use Rattle.node.specs.Runs.{reads}
+use Rattle.node.specs.Due.{call_for}
+use Rattle.node.specs.Nodes.{slot_in}
+use Rattle.std.proofs.Common.{mul-le-mul_right, mul-le-mul_left, add-mul}
+use Rattle.node.specs.Runs.{MadeAt, Comes, reads}
 use Rattle.std.proofs.lemmas.Bool.{cases_lt, lt-ltb, le-ltb}
 use Rattle.node.specs.Runs.{slot_due}
 use Rattle.schedule.specs.Slots.{send_time_of}
@@ -48,6 +51,7 @@ use Rattle.node.specs.Runs.{Run, on_bus, listened, Does, Called, writes}
 use Rattle.node.specs.declared.refusal.Refusal.{Refusal}
 use Rattle.node.specs.declared.state.Node.{Node}
 use Rattle.node.specs.declared.due.Call.TheVariants.{Send, SlotOver, RoundOver}
+use Rattle.node.specs.declared.due.Due.{Due}
 use Rattle.node.proofs.Open.{finds, finds_none}
 use Rattle.node.proofs.Accepted.{Timely, sending_taken, hearing_taken, ending_taken, does_not_stop}
 
@@ -85,7 +89,7 @@ written_next round first second =
 pub done : (rows : List (Row Refusal)) (did kept : Type 0) → first_applying rows ≡ None → Leaves rows did kept → did
 done rows did kept none leaves = subst (λ row. MatchOption row did (λ refusal. kept)) none leaves
 
--- when calls are due in a round, as long as no number stops
+-- when calls are due in a round
 abbrev sending_at : Schedule → ℕ → ℕ → ℕ
 sending_at s k own = min (send_time_of (timing_of s) (min (slot_of (timing_of s) k own) largest)) largest
 
@@ -110,6 +114,12 @@ module _ (s : Schedule) (r : Run) where
   abbrev pub entered_of : ℕ → ℕ → ℕ → List ℕ
   entered_of k p q =
       cond (q == p) (told_from (turn_in s.cluster k p) (read_in k (r.first k p q) (r.second k p q))) (values_of (turn_in s.cluster k q) (heard_of k p q))
+
+  min-le : (m : ℕ) → min m largest ≤ m
+  min-le m = omega arith
+
+  min-le_one_more : (m : ℕ) → min m largest + 1 ≤ m + 1
+  min-le_one_more m = omega arith
 
   -- when the next call is due
   abbrev pub next_time : ℕ → ℕ → ℕ → ℕ
@@ -137,12 +147,16 @@ module _ (s : Schedule) (r : Run) where
   next_of_first : (k p : ℕ) → slot_start t (slot k 0) + s.pause ≤ next_time k p 0
   next_of_first k p = rw (lt-ltb 0 n (omega (arith, s.cluster.enough))) (due_behind k p 0)
 
-  -- What is known of a node in a round behind so many calls.
-  pub record Stage (k p calls : ℕ) : Type 0 where
+  -- What is known of a node in a round behind so many calls: where it is,
+  pub record Place (k p calls : ℕ) : Type 0 where
     pub config : (r.node k p calls).schedule ≡ s
     pub own : (r.node k p calls).own ≡ p
     pub counts : (r.node k p calls).clock.round ≡ k
     pub passed : (q : ℕ) → among (r.node k p calls).over q ≡ nat_lt q calls
+
+  -- and all else.
+  pub record Stage (k p calls : ℕ) : Type 0 where
+    pub place : Place k p calls
     pub shows : (r.node k p calls).clock.shown ≤ next_time k p calls
     pub read_fits : length (read_in k (r.first k p calls) (r.second k p calls)) ≡ table_length_of s.cluster
     pub write_fits : length (writes r k p calls) ≡ table_length_of s.cluster
@@ -151,63 +165,128 @@ module _ (s : Schedule) (r : Run) where
     pub own_unheard : get_or (r.node k p calls).heard p None ≡ None
     pub heard : (q : ℕ) → q < calls → (q ≡ p → ⊥) → get_or (r.node k p calls).heard q None ≡ deviation_of_taken (heard_of k p q)
 
-  module _ (k p calls : ℕ) (stage : Stage k p calls) where
+  module _ (k p calls : ℕ) (place : Place k p calls) where
     abbrev node : Node
     node = r.node k p calls
 
     turn_is : (q : ℕ) → turn_of node q ≡ turn_in s.cluster k q
-    turn_is q = λ i. turn_in (stage.config i).cluster (stage.counts i) q
+    turn_is q = λ i. turn_in (place.config i).cluster (place.counts i) q
 
     next_is : calls < n → next_slot node ≡ Some calls
     next_is h =
-        ap (λ m. find (λ q. not (among node.over q)) (range_with_len 0 m)) (ap (λ x. x.cluster.nodes) stage.config)
-        ∙ finds (among node.over) calls stage.passed 0 n (omega arith) (omega (arith, h))
+        ap (λ m. find (λ q. not (among node.over q)) (range_with_len 0 m)) (ap (λ x. x.cluster.nodes) place.config)
+        ∙ finds (among node.over) calls place.passed 0 n (omega arith) (omega (arith, h))
 
     next_is_none : n ≤ calls → next_slot node ≡ None
     next_is_none h =
-        ap (λ m. find (λ q. not (among node.over q)) (range_with_len 0 m)) (ap (λ x. x.cluster.nodes) stage.config)
-        ∙ finds_none (among node.over) calls stage.passed 0 n (omega (arith, h))
+        ap (λ m. find (λ q. not (among node.over q)) (range_with_len 0 m)) (ap (λ x. x.cluster.nodes) place.config)
+        ∙ finds_none (among node.over) calls place.passed 0 n (omega (arith, h))
 
     -- the call that is due
-    pub due_to_send : calls ≡ p → calls < n → due_of node ≡ record { call = Send; time = sending_at s k p }
+    due_to_send : calls ≡ p → calls < n → due_of node ≡ record { call = Send; time = sending_at s k p }
     due_to_send same h =
-        let e : call_of node ≡ Send = ap (call_for node.own) (next_is h) ∙ rw (eq-eqb calls node.own (same ∙ sym stage.own)) refl in
+        let e : call_of node ≡ Send = ap (call_for node.own) (next_is h) ∙ rw (eq-eqb calls node.own (same ∙ sym place.own)) refl in
         ap (λ call. record { call = call; time = time_of node call }) e
-        ∙ (λ i. record { call = Send; time = sending_at (stage.config i) (stage.counts i) (stage.own i) })
+        ∙ (λ i. record { call = Send; time = sending_at (place.config i) (place.counts i) (place.own i) })
 
-    pub due_to_hear : (calls ≡ p → ⊥) → calls < n → due_of node ≡ record { call = SlotOver calls; time = over_at s k calls }
+    due_to_hear : (calls ≡ p → ⊥) → calls < n → due_of node ≡ record { call = SlotOver calls; time = over_at s k calls }
     due_to_hear differs h =
-        let e : call_of node ≡ SlotOver calls = ap (call_for node.own) (next_is h) ∙ rw (ne_eqb calls node.own (λ same. differs (same ∙ stage.own))) refl in
+        let e : call_of node ≡ SlotOver calls = ap (call_for node.own) (next_is h) ∙ rw (ne_eqb calls node.own (λ same. differs (same ∙ place.own))) refl in
         ap (λ call. record { call = call; time = time_of node call }) e
-        ∙ (λ i. record { call = SlotOver calls; time = over_at (stage.config i) (stage.counts i) calls })
+        ∙ (λ i. record { call = SlotOver calls; time = over_at (place.config i) (place.counts i) calls })
 
-    pub due_to_end : n ≤ calls → due_of node ≡ record { call = RoundOver; time = min (round_end_of t k) largest }
+    due_to_end : n ≤ calls → due_of node ≡ record { call = RoundOver; time = min (round_end_of t k) largest }
     due_to_end h =
         let e : call_of node ≡ RoundOver = ap (call_for node.own) (next_is_none h) in
         ap (λ call. record { call = call; time = time_of node call }) e
-        ∙ (λ i. record { call = RoundOver; time = min (round_end_of (timing_of (stage.config i)) (stage.counts i)) largest })
+        ∙ (λ i. record { call = RoundOver; time = min (round_end_of (timing_of (place.config i)) (place.counts i)) largest })
+
+    -- it is due at its time, or, where numbers stop, before
+    due_by : (due_of node).time ≤ next_time k p calls
+    due_by =
+        elim (cases_lt calls n) [
+          | inl h ↦
+              elim (cases_eq calls p) [
+                | inl same ↦
+                    let e : (due_of node).time ≡ sending_at s k p = ap (λ due. due.time) (due_to_send same h) in
+                    rw (lt-ltb calls n h, eq-eqb calls p same) (rw same (omega (arith, rw same at e, mul-le-mul_right s.length (min-le (slot k p)))))
+                | inr differs ↦
+                    let e : (due_of node).time ≡ over_at s k calls = ap (λ due. due.time) (due_to_hear differs h) in
+                    rw (lt-ltb calls n h, ne_eqb calls p differs) (omega (arith, e, mul-le-mul_right s.length (min-le_one_more (slot k calls))))
+              ]
+          | inr h ↦
+              let e : (due_of node).time ≡ min (round_end_of t k) largest = ap (λ due. due.time) (due_to_end (omega (arith, h))) in
+              rw (le-ltb calls n (omega (arith, h))) (omega (arith, e))
+        ]
+
+  module _ (k p calls : ℕ) (stage : Stage k p calls) where
+    abbrev here : Node
+    here = r.node k p calls
+
+    abbrev place : Place k p calls
+    place = stage.place
 
     -- What a call for a slot did.
     pub record Moved : Type 0 where
-      pub time : ℕ
-      pub passes : Passed node time calls (r.node k p (suc calls))
-      pub in_slot : time ≤ slot_end_of t (slot k calls)
+      pub passes : Passed here (r.at k p calls).shown calls (r.node k p (suc calls))
       pub entered : Entered (turn_in s.cluster k calls) (entered_of k p calls) (writes r k p calls) (writes r k p (suc calls))
       pub reads_on : read_in k (r.first k p (suc calls)) (r.second k p (suc calls)) ≡ read_in k (r.first k p calls) (r.second k p calls)
       pub sixteen : length (r.node k p (suc calls)).heard ≡ 16
-      pub others : (q : ℕ) → (q ≡ calls → ⊥) → get_or (r.node k p (suc calls)).heard q None ≡ get_or node.heard q None
+      pub others : (q : ℕ) → (q ≡ calls → ⊥) → get_or (r.node k p (suc calls)).heard q None ≡ get_or here.heard q None
       pub this : get_or (r.node k p (suc calls)).heard calls None ≡ cond (calls == p) None (deviation_of_taken (heard_of k p calls))
 
+    -- what was entered, and the table that is read, by the round that is counted right
+    enters : (values : List ℕ) (turn : Turn) → turn ≡ turn_in s.cluster k calls → values ≡ entered_of k p calls →
+        Entered turn values (written_in here.clock.round (r.first k p calls) (r.second k p calls))
+        (written_in here.clock.round (r.first k p (suc calls)) (r.second k p (suc calls))) →
+        Entered (turn_in s.cluster k calls) (entered_of k p calls) (writes r k p calls) (writes r k p (suc calls))
+    enters values turn same_turn same_values entered =
+        subst (λ j. Entered (turn_in s.cluster k calls) (entered_of k p calls) (written_in j (r.first k p calls) (r.second k p calls))
+        (written_in j (r.first k p (suc calls)) (r.second k p (suc calls)))) place.counts
+        (subst (λ told. Entered (turn_in s.cluster k calls) told (written_in here.clock.round (r.first k p calls) (r.second k p calls))
+        (written_in here.clock.round (r.first k p (suc calls)) (r.second k p (suc calls)))) same_values
+        (subst (λ u. Entered u values (written_in here.clock.round (r.first k p calls) (r.second k p calls))
+        (written_in here.clock.round (r.first k p (suc calls)) (r.second k p (suc calls)))) same_turn entered))
+
+    on_reading : read_in here.clock.round (r.first k p (suc calls)) (r.second k p (suc calls)) ≡ read_in here.clock.round (r.first k p calls) (r.second k p calls) →
+        read_in k (r.first k p (suc calls)) (r.second k p (suc calls)) ≡ read_in k (r.first k p calls) (r.second k p calls)
+    on_reading same =
+        subst (λ j. read_in j (r.first k p (suc calls)) (r.second k p (suc calls)) ≡ read_in j (r.first k p calls) (r.second k p calls)) place.counts same
+
+    sends_before : calls ≡ p → sending_at s k p ≤ slot_end_of t (slot k calls)
+    sends_before same =
+        rw same (omega (arith, mul-le-mul_right s.length (min-le (slot k p)), add-mul (slot k p) 1 s.length, s.behind))
+
+    -- no call is made later than the next one is due
+    shown_before : calls < n → Called s r k p calls → Place k p (suc calls) → (r.at k p calls).shown ≤ next_time k p (suc calls)
+    shown_before h called next =
+        let as_due = λ (due : Due). MadeAt due.call due.time (due_of (r.node k p (suc calls))).time (r.at k p calls).shown in
+        elim (cases_eq calls p) [
+          | inl same ↦
+              let on_time : (r.at k p calls).shown ≡ sending_at s k p = subst as_due (due_to_send k p calls place same h) called.on_time in
+              omega (arith, on_time, sends_before same, next_behind k p calls h)
+          | inr differs ↦
+              let on_time : (over_at s k calls ≤ (r.at k p calls).shown) × ((r.at k p calls).shown ≤ (due_of (r.node k p (suc calls))).time) =
+              subst as_due (due_to_hear k p calls place differs h) called.on_time in
+              omega (arith, on_time, due_by k p (suc calls) next)
+        ]
+
     -- so much is known behind it
-    pub next_stage : calls < n → p < n → Moved → Stage k p (suc calls)
-    next_stage h known moved =
+    next_place : calls < n → Moved → Place k p (suc calls)
+    next_place h moved =
         let e = moved.passes in
         record {
-          config = e.its_schedule ∙ stage.config;
-          own = e.its_own ∙ stage.own;
-          counts = e.clock.its_round ∙ stage.counts;
-          passed = λ q. e.its_over q ∙ ap (λ b. (nat_lt calls 16 && (calls == q)) || b) (stage.passed q) ∙ grind (arith, nat_tests, h, s.cluster.most);
-          shows = omega (arith, e.clock.shows, moved.in_slot, next_behind k p calls h);
+          config = e.its_schedule ∙ place.config;
+          own = e.its_own ∙ place.own;
+          counts = e.clock.its_round ∙ place.counts;
+          passed = λ q. e.its_over q ∙ ap (λ b. (nat_lt calls 16 && (calls == q)) || b) (place.passed q) ∙ grind (arith, nat_tests, h, s.cluster.most);
+        }
+
+    pub next_stage : calls < n → Called s r k p calls → Moved → Stage k p (suc calls)
+    next_stage h called moved =
+        record {
+          place = next_place h moved;
+          shows = omega (arith, moved.passes.clock.shows, shown_before h called (next_place h moved));
           read_fits = ap length moved.reads_on ∙ stage.read_fits;
           write_fits = moved.entered.same_length ∙ stage.write_fits;
           sixteen = moved.sixteen;
@@ -219,130 +298,124 @@ module _ (s : Schedule) (r : Run) where
               ];
           heard = λ q l other.
               elim (cases_eq q calls) [
-                | inl same ↦ ap (λ x. get_or (r.node k p (suc calls)).heard x None) same ∙ moved.this
+                | inl same ↦
+                    ap (λ x. get_or (r.node k p (suc calls)).heard x None) same ∙ moved.this
                     ∙ rw (ne_eqb calls p (λ e. other (same ∙ e))) (ap (λ x. deviation_of_taken (heard_of k p x)) (sym same))
                 | inr differs ↦ moved.others q differs ∙ stage.heard q (grind (arith, l, differs)) other
               ];
         }
 
-    -- a call at the time at which the next one is due
-    timely : (time : ℕ) → time < clock_limit → time ≡ next_time k p calls → Timely node time (r.first k p calls) (r.second k p calls)
-    timely time below in_time =
-        let needed : table_length_of s.cluster ≡ table_length_of node.schedule.cluster = sym (ap (λ x. table_length_of x.cluster) stage.config) in
+    -- a call at the time at which it is due, or later
+    timely : (time : ℕ) → time < clock_limit → next_time k p calls ≤ time → Timely here time (r.first k p calls) (r.second k p calls)
+    timely time below late =
+        let needed : table_length_of s.cluster ≡ table_length_of here.schedule.cluster = sym (ap (λ x. table_length_of x.cluster) place.config) in
         let (first_fits, second_fits) = by_role k (table_length_of s.cluster) (r.first k p calls) (r.second k p calls) stage.read_fits stage.write_fits in
         record {
           below = below;
-          later = omega (arith, stage.shows, in_time);
+          later = omega (arith, stage.shows, late);
           first_fits = first_fits ∙ needed;
           second_fits = second_fits ∙ needed;
         }
 
-    module _ (called : Called s r k p calls) (h : calls < n) where
-      module _ (same : calls ≡ p) where
-        pub send_due : (r.at k p calls).shown ≡ sending_at s k p
-        send_due = called.in_time ∙ ap (λ due. due.time) (due_to_send same h)
+    -- what the clock shows as the call is made
+    abbrev shown : ℕ
+    shown = (r.at k p calls).shown
 
-        pub sends_at : (r.at k p calls).shown ≡ send_time_of t (slot k p)
+    abbrev MadeAsDue : Due → Type 0
+    MadeAsDue due = MadeAt due.call due.time (due_of (r.node k p (suc calls))).time shown
+
+    module _ (h : calls < n) (called : Called s r k p calls) where
+      module _ (same : calls ≡ p) where
+        send_due : shown ≡ sending_at s k p
+        send_due = subst MadeAsDue (due_to_send k p calls place same h) called.on_time
+
+        pub sends_at : shown ≡ send_time_of t (slot k p)
         sends_at =
             send_due
             ∙ does_not_stop (slot k p) s.length s.pause (omega (arith, s.behind, s.before)) (subst (λ time. time < clock_limit) send_due (r.at k p calls).below)
 
         pub did_send : frame_length_of (turn_in s.cluster k p) ≤ length (r.memory k p) →
-            SentBy node (sending_at s k p) (r.first k p calls) (r.second k p calls) (r.memory k p) (r.node k p (suc calls)) (r.first k p (suc calls))
+            SentBy here shown (r.first k p calls) (r.second k p calls) (r.memory k p) (r.node k p (suc calls)) (r.first k p (suc calls))
             (r.second k p (suc calls)) (r.filled k p)
         did_send room =
-            let does = subst (λ due. Does s r k p calls due.time due.call) (due_to_send same h) called.does in
-            let own : turn_of node node.own ≡ turn_in s.cluster k p = λ i. turn_in (stage.config i).cluster (stage.counts i) (stage.own i) in
-            let time : sending_at s k p ≡ slot_start t (slot k p) + s.pause = sym send_due ∙ sends_at in
-            let long : frame_length_of (turn_of node node.own) ≤ length (r.memory k p) = rw own room in
-            let free : among node.over node.own ≡ false = stage.passed node.own ∙ grind (arith, nat_tests, stage.own, same) in
-            let in_time = timely (sending_at s k p) (subst (λ x. x < clock_limit) send_due (r.at k p calls).below)
-            (rw (lt-ltb calls n h, eq-eqb calls p same) time) in
-            done (unsent node (sending_at s k p) (r.first k p calls) (r.second k p calls) (r.memory k p)) _ _
-            (sending_taken node (sending_at s k p) (r.first k p calls) (r.second k p calls) in_time (r.memory k p) long free) does
+            let does = subst (λ due. Does s r k p calls shown due.call) (due_to_send k p calls place same h) called.does in
+            let own : turn_of here here.own ≡ turn_in s.cluster k p = λ i. turn_in (place.config i).cluster (place.counts i) (place.own i) in
+            let long : frame_length_of (turn_of here here.own) ≤ length (r.memory k p) = rw own room in
+            let free : among here.over here.own ≡ false = place.passed here.own ∙ grind (arith, nat_tests, place.own, same) in
+            let late : next_time k p calls ≤ shown = rw (lt-ltb calls n h, eq-eqb calls p same) (omega (arith, sends_at, ap (λ q. slot k q * s.length) same)) in
+            done (unsent here shown (r.first k p calls) (r.second k p calls) (r.memory k p)) _ _
+            (sending_taken here shown (r.first k p calls) (r.second k p calls) (timely shown (r.at k p calls).below late) (r.memory k p) long free) does
 
         moved_by_sending : frame_length_of (turn_in s.cluster k p) ≤ length (r.memory k p) → Moved
         moved_by_sending room =
             let by = did_send room in
-            let own_turn : turn_of node node.own ≡ turn_in s.cluster k calls = (λ i. turn_in (stage.config i).cluster (stage.counts i) (stage.own i)) ∙ ap (turn_in s.cluster k) (sym same) in
-            let own : node.own ≡ calls = stage.own ∙ sym same in
-            let time : sending_at s k p ≡ slot_start t (slot k p) + s.pause = sym send_due ∙ sends_at in
+            let own_turn : turn_of here here.own ≡ turn_in s.cluster k calls =
+            (λ i. turn_in (place.config i).cluster (place.counts i) (place.own i)) ∙ ap (turn_in s.cluster k) (sym same) in
+            let own : here.own ≡ calls = place.own ∙ sym same in
             let values : told_from (turn_in s.cluster k calls) (read_in k (r.first k p calls) (r.second k p calls)) ≡ entered_of k p calls =
             sym (rw (eq-eqb calls p same, same) refl) in
             record {
-              time = sending_at s k p;
-              passes = subst (λ who. Passed node (sending_at s k p) who (r.node k p (suc calls))) own by.sent.passed;
-              in_slot = rw same (omega (arith, time, add-mul (slot k p) 1 s.length, s.behind));
-              entered = subst (λ told. Entered (turn_in s.cluster k calls) told (writes r k p calls) (writes r k p (suc calls))) values
-                  (subst (λ j. Entered (turn_in s.cluster k calls) (told_from (turn_in s.cluster k calls) (read_in j (r.first k p calls) (r.second k p calls)))
-                  (written_in j (r.first k p calls) (r.second k p calls)) (written_in j (r.first k p (suc calls)) (r.second k p (suc calls)))) stage.counts
-                  (subst (λ u. Entered u (told_from u (read_in node.clock.round (r.first k p calls) (r.second k p calls)))
-                  (written_in node.clock.round (r.first k p calls) (r.second k p calls)) (written_in node.clock.round (r.first k p (suc calls)) (r.second k p (suc calls)))) own_turn
-                  by.sent.entered));
-              reads_on = subst (λ j. read_in j (r.first k p (suc calls)) (r.second k p (suc calls)) ≡ read_in j (r.first k p calls) (r.second k p calls)) stage.counts by.reads_on;
+              passes = subst (λ who. Passed here shown who (r.node k p (suc calls))) own by.sent.passed;
+              entered = enters (told_from (turn_of here here.own) (read_in here.clock.round (r.first k p calls) (r.second k p calls))) (turn_of here here.own) own_turn
+                  ((λ i. told_from (own_turn i) (read_in (place.counts i) (r.first k p calls) (r.second k p calls))) ∙ values) by.sent.entered;
+              reads_on = on_reading by.reads_on;
               sixteen = ap length by.sent.its_heard ∙ stage.sixteen;
               others = λ q differs. ap (λ heard. get_or heard q None) by.sent.its_heard;
               this = ap (λ heard. get_or heard calls None) by.sent.its_heard ∙ stage.unheard calls (omega arith) ∙ sym (rw (eq-eqb calls p same) refl);
             }
 
       module _ (differs : calls ≡ p → ⊥) where
-        pub hear_due : (r.at k p calls).shown ≡ over_at s k calls
-        hear_due = called.in_time ∙ ap (λ due. due.time) (due_to_hear differs h)
+        hear_due : (over_at s k calls ≤ shown) × (shown ≤ (due_of (r.node k p (suc calls))).time)
+        hear_due = subst MadeAsDue (due_to_hear k p calls place differs h) called.on_time
 
-        pub hears_at : (r.at k p calls).shown ≡ slot_end_of t (slot k calls)
-        hears_at =
+        pub hears_from : over_at s k calls ≡ slot_end_of t (slot k calls)
+        hears_from =
             let m = min (slot k calls) largest in
             let split : (m + 1) * s.length ≡ m * s.length + s.length = omega (arith, add-mul m 1 s.length) in
-            let e : (r.at k p calls).shown ≡ min (m * s.length + s.length) largest = hear_due ∙ ap (λ x. min x largest) split in
+            let e : over_at s k calls ≡ min (m * s.length + s.length) largest = ap (λ x. min x largest) split in
+            let below : over_at s k calls < clock_limit = omega (arith, hear_due, (r.at k p calls).below) in
             e
-            ∙ does_not_stop (slot k calls) s.length s.length (omega (arith, s.behind, s.before)) (subst (λ time. time < clock_limit) e (r.at k p calls).below)
+            ∙ does_not_stop (slot k calls) s.length s.length (omega (arith, s.behind, s.before)) (subst (λ time. time < clock_limit) e below)
             ∙ omega (arith, add-mul (slot k calls) 1 s.length)
 
+        -- the slot is one whose number does not stop
+        slot_is : slot_in here calls ≡ slot k calls
+        slot_is =
+            let long : (slot k calls + 1) * 1 ≤ (slot k calls + 1) * s.length = mul-le-mul_left (slot k calls + 1) (omega (arith, s.behind, s.before)) in
+            (λ i. min (slot_of (timing_of (place.config i)) (place.counts i) calls) largest)
+            ∙ omega (arith, long, hears_from, hear_due, (r.at k p calls).below)
+
         did_hear :
-            HeardBy node (over_at s k calls) calls (listened s r k p calls calls) (r.first k p calls) (r.second k p calls) (r.node k p (suc calls))
+            HeardBy here shown calls (listened s r k p calls calls) (r.first k p calls) (r.second k p calls) (r.node k p (suc calls))
             (r.first k p (suc calls)) (r.second k p (suc calls))
         did_hear =
-            let does = subst (λ due. Does s r k p calls due.time due.call) (due_to_hear differs h) called.does in
-            let time : over_at s k calls ≡ slot_end_of t (slot k calls) = sym hear_due ∙ hears_at in
-            let free : among node.over calls ≡ false = stage.passed calls ∙ grind (arith, nat_tests) in
-            let known : calls < node.schedule.cluster.nodes = rw stage.config h in
-            let other : (calls == node.own) ≡ false = ne_eqb calls node.own (λ same. differs (same ∙ stage.own)) in
-            let in_time =
-            timely (over_at s k calls) (subst (λ x. x < clock_limit) hear_due (r.at k p calls).below)
-            (rw (lt-ltb calls n h, ne_eqb calls p differs) time) in
-            done (unheard node (over_at s k calls) calls (r.first k p calls) (r.second k p calls)) _ _
-            (hearing_taken node (over_at s k calls) (r.first k p calls) (r.second k p calls) in_time calls known other free) does
+            let does = subst (λ due. Does s r k p calls shown due.call) (due_to_hear k p calls place differs h) called.does in
+            let free : among here.over calls ≡ false = place.passed calls ∙ grind (arith, nat_tests) in
+            let known : calls < here.schedule.cluster.nodes = rw place.config h in
+            let other : (calls == here.own) ≡ false = ne_eqb calls here.own (λ same. differs (same ∙ place.own)) in
+            let late : next_time k p calls ≤ shown = rw (lt-ltb calls n h, ne_eqb calls p differs) (omega (arith, hears_from, hear_due)) in
+            done (unheard here shown calls (r.first k p calls) (r.second k p calls)) _ _
+            (hearing_taken here shown (r.first k p calls) (r.second k p calls) (timely shown (r.at k p calls).below late) calls known other free) does
 
         moved_by_hearing : Moved
         moved_by_hearing =
             let by = did_hear in
-            let its = turn_is calls in
-            let time : over_at s k calls ≡ slot_end_of t (slot k calls) = sym hear_due ∙ hears_at in
+            let its = turn_is k p calls place calls in
             let answers : listened s r k p calls calls ≡ answered s (on_bus s r) k p calls =
-            ap (λ j. heard_in s (slot j calls) (r.opened k p calls) (r.arrived k p calls)) stage.counts in
-            let took : taken (turn_of node calls) (listened s r k p calls calls) ≡ heard_of k p calls = (λ i. taken (its i) (answers i)) in
-            let values : values_of (turn_of node calls) (taken (turn_of node calls) (listened s r k p calls calls)) ≡ entered_of k p calls =
-            (λ i. values_of (its i) (took i)) ∙ sym (rw (ne_eqb calls p differs) refl) in
+            ap (λ m. heard_in s m (r.opened k p calls) (r.arrived k p calls)) slot_is in
+            let took : taken (turn_of here calls) (listened s r k p calls calls) ≡ heard_of k p calls = (λ i. taken (its i) (answers i)) in
+            let deviation = deviation_of_taken (taken (turn_of here calls) (listened s r k p calls calls)) in
             let kept = by.has_heard.its_heard in
-            let long : calls < length node.heard = omega (arith, stage.sixteen, h, s.cluster.most) in
+            let long : calls < length here.heard = omega (arith, stage.sixteen, h, s.cluster.most) in
             record {
-              time = over_at s k calls;
               passes = by.has_heard.passed;
-              in_slot = omega (arith, time);
-              entered = subst (λ j. Entered (turn_in s.cluster k calls) (entered_of k p calls) (written_in j (r.first k p calls) (r.second k p calls))
-                  (written_in j (r.first k p (suc calls)) (r.second k p (suc calls)))) stage.counts
-                  (subst (λ told. Entered (turn_in s.cluster k calls) told (written_in node.clock.round (r.first k p calls) (r.second k p calls))
-                  (written_in node.clock.round (r.first k p (suc calls)) (r.second k p (suc calls)))) values
-                  (subst (λ u. Entered u (values_of (turn_of node calls) (taken (turn_of node calls) (listened s r k p calls calls)))
-                  (written_in node.clock.round (r.first k p calls) (r.second k p calls)) (written_in node.clock.round (r.first k p (suc calls)) (r.second k p (suc calls)))) its
-                  by.has_heard.entered));
-              reads_on = subst (λ j. read_in j (r.first k p (suc calls)) (r.second k p (suc calls)) ≡ read_in j (r.first k p calls) (r.second k p calls)) stage.counts by.reads_on;
-              sixteen = ap length kept ∙ length-set node.heard calls (deviation_of_taken (taken (turn_of node calls) (listened s r k p calls calls))) ∙ stage.sixteen;
-              others = λ q other. ap (λ heard. get_or heard q None) kept
-                  ∙ get_or-set_other node.heard calls q (deviation_of_taken (taken (turn_of node calls) (listened s r k p calls calls))) None other;
-              this = ap (λ heard. get_or heard calls None) kept
-                  ∙ get_or-set_same node.heard calls (deviation_of_taken (taken (turn_of node calls) (listened s r k p calls calls))) None long
-                  ∙ ap deviation_of_taken took ∙ sym (rw (ne_eqb calls p differs) refl);
+              entered = enters (values_of (turn_of here calls) (taken (turn_of here calls) (listened s r k p calls calls))) (turn_of here calls) its
+                  ((λ i. values_of (its i) (took i)) ∙ sym (rw (ne_eqb calls p differs) refl)) by.has_heard.entered;
+              reads_on = on_reading by.reads_on;
+              sixteen = ap length kept ∙ length-set here.heard calls deviation ∙ stage.sixteen;
+              others = λ q other. ap (λ heard. get_or heard q None) kept ∙ get_or-set_other here.heard calls q deviation None other;
+              this = ap (λ heard. get_or heard calls None) kept ∙ get_or-set_same here.heard calls deviation None long ∙ ap deviation_of_taken took
+                  ∙ sym (rw (ne_eqb calls p differs) refl);
             }
 
       -- so the call of a slot is taken, whichever it is
@@ -388,60 +461,59 @@ module _ (s : Schedule) (r : Run) where
       time = (r.at k p n).shown
 
       pub ends_due : time ≡ min (round_end_of t k) largest
-      ends_due = called.in_time ∙ ap (λ due. due.time) (due_to_end k p n stage (omega arith))
+      ends_due =
+          subst (λ due. MadeAt due.call due.time (due_of (r.node k p (suc n))).time time) (due_to_end k p n stage.place (omega arith)) called.on_time
 
       pub ends_at : time ≡ round_end_of t k
       ends_at = omega (arith, ends_due, (r.at k p n).below)
 
       pub did_end :
-          EndedBy last (min (round_end_of t k) largest) (r.value (suc k) p) (r.first k p n) (r.second k p n) (r.node (suc k) p 0) (r.first (suc k) p 0)
+          EndedBy last time (r.value (suc k) p) (r.first k p n) (r.second k p n) (r.node (suc k) p 0) (r.first (suc k) p 0)
           (r.second (suc k) p 0)
       did_end =
-          let at = min (round_end_of t k) largest in
-          let does = subst (λ due. Does s r k p n due.time due.call) (due_to_end k p n stage (omega arith)) called.does in
-          let needed : table_length_of s.cluster ≡ table_length_of last.schedule.cluster = sym (ap (λ x. table_length_of x.cluster) stage.config) in
+          let does = subst (λ due. Does s r k p n time due.call) (due_to_end k p n stage.place (omega arith)) called.does in
+          let needed : table_length_of s.cluster ≡ table_length_of last.schedule.cluster = sym (ap (λ x. table_length_of x.cluster) stage.place.config) in
           let (first_fits, second_fits) = by_role k (table_length_of s.cluster) (r.first k p n) (r.second k p n) stage.read_fits stage.write_fits in
-          let in_time : Timely last at (r.first k p n) (r.second k p n) = record {
-            below = omega (arith, ends_due, (r.at k p n).below);
-            later = let shows : last.clock.shown ≤ round_end_of t k = rw (le-ltb n n (omega arith)) at stage.shows in omega (arith, shows, ends_due, ends_at);
+          let in_time : Timely last time (r.first k p n) (r.second k p n) = record {
+            below = (r.at k p n).below;
+            later = let shows : last.clock.shown ≤ round_end_of t k = rw (le-ltb n n (omega arith)) at stage.shows in omega (arith, shows, ends_at);
             first_fits = first_fits ∙ needed;
             second_fits = second_fits ∙ needed;
           } in
-          done (unended last at (r.first k p n) (r.second k p n)) _ _ (ending_taken last at (r.first k p n) (r.second k p n) in_time) does
+          done (unended last time (r.first k p n) (r.second k p n)) _ _ (ending_taken last time (r.first k p n) (r.second k p n) in_time) does
 
       -- what the end of the round left
       pub sets_to : (r.node (suc k) p 0).clock.shown ≡ settled s.cluster.faults time (readings n p time last.heard)
       sets_to =
-          let at : min (round_end_of t k) largest ≡ time = sym ends_due in
           did_end.ended.shows
-          ∙ (λ i. settled (stage.config i).cluster.faults (at i) (readings (stage.config i).cluster.nodes (stage.own i) (at i) last.heard))
+          ∙ (λ i. settled (stage.place.config i).cluster.faults time (readings (stage.place.config i).cluster.nodes (stage.place.own i) time last.heard))
 
       pub counts_on : (r.node (suc k) p 0).clock.round ≡ next_round_of k
-      counts_on = did_end.ended.its_round ∙ ap next_round_of stage.counts
+      counts_on = did_end.ended.its_round ∙ ap next_round_of stage.place.counts
 
       -- all slots were over, so nothing was entered for any
       same_whole : did_end.ended.whole ≡ writes r k p n
       same_whole =
           let ended = did_end.ended in
           let none : missed last ≡ [] =
-          ap (λ m. filter (λ q. not (among last.over q)) (range_with_len 0 m)) (ap (λ x. x.cluster.nodes) stage.config)
-          ∙ none_left (among last.over) n stage.passed 0 n (omega arith) in
+          ap (λ m. filter (λ q. not (among last.over q)) (range_with_len 0 m)) (ap (λ x. x.cluster.nodes) stage.place.config)
+          ∙ none_left (among last.over) n stage.place.passed 0 n (omega arith) in
           let written = written_in last.clock.round (r.first k p n) (r.second k p n) in
           let reads = read_in last.clock.round (r.first k p n) (r.second k p n) in
           let whole : ended.whole ≡ written =
           subst (λ senders. EnteredAll last.schedule.cluster last.clock.round (value_missed last reads) senders written ended.whole) none ended.completed in
-          whole ∙ ap (λ j. written_in j (r.first k p n) (r.second k p n)) stage.counts
+          whole ∙ ap (λ j. written_in j (r.first k p n) (r.second k p n)) stage.place.counts
 
       pub last_of_cycle : is_last last ≡ (place_in_cycle s.cluster k == s.cluster.faults)
-      last_of_cycle = λ i. place_in_cycle (stage.config i).cluster (stage.counts i) == (stage.config i).cluster.faults
+      last_of_cycle = λ i. place_in_cycle (stage.place.config i).cluster (stage.place.counts i) == (stage.place.config i).cluster.faults
 
       pub reads_next :
           reads r (suc k) p ≡ cond (place_in_cycle s.cluster k == s.cluster.faults) (with_entry s.cluster [] (r.value (suc k) p) (writes r k p n)) (writes r k p n)
       reads_next =
           read_next k (r.first (suc k) p 0) (r.second (suc k) p 0)
-          ∙ ap (λ j. written_in j (r.first (suc k) p 0) (r.second (suc k) p 0)) (sym stage.counts)
+          ∙ ap (λ j. written_in j (r.first (suc k) p 0) (r.second (suc k) p 0)) (sym stage.place.counts)
           ∙ did_end.ended.begins
-          ∙ (λ i. cond (last_of_cycle i) (with_entry (stage.config i).cluster [] (r.value (suc k) p) (same_whole i)) (same_whole i))
+          ∙ (λ i. cond (last_of_cycle i) (with_entry (stage.place.config i).cluster [] (r.value (suc k) p) (same_whole i)) (same_whole i))
 
       pub results_next : place_in_cycle s.cluster k ≡ s.cluster.faults →
           (r.node (suc k) p 0).results ≡ Some (written_over (results_of s.cluster (writes r k p n)) (replicate most_readings 0))
@@ -449,7 +521,7 @@ module _ (s : Schedule) (r : Run) where
           let all : is_last last ≡ true = last_of_cycle ∙ eq-eqb (place_in_cycle s.cluster k) s.cluster.faults is in
           did_end.ended.its_results
           ∙ ap (λ b. cond b (Some (written_over (results_of last.schedule.cluster did_end.ended.whole) (replicate most_readings 0))) last.results) all
-          ∙ (λ i. Some (written_over (results_of (stage.config i).cluster (same_whole i)) (replicate most_readings 0)))
+          ∙ (λ i. Some (written_over (results_of (stage.place.config i).cluster (same_whole i)) (replicate most_readings 0)))
 
       -- what was heard is of its slot, so no clock is set farther ahead than by the pause
       pub set_le : (r.node (suc k) p 0).clock.shown ≤ round_end_of t k + s.pause
@@ -475,17 +547,19 @@ module _ (s : Schedule) (r : Run) where
           let turn : (k + 1) * 1 ≤ (k + 1) * n = mul-le-mul_left (k + 1) (omega (arith, s.cluster.enough)) in
           let long : (k + 1) * n * 1 ≤ (k + 1) * n * s.length = mul-le-mul_left ((k + 1) * n) (omega (arith, s.behind, s.before)) in
           record {
-            config = ended.its_schedule ∙ stage.config;
-            own = ended.its_own ∙ stage.own;
-            counts = counts_on ∙ omega (arith, turn, long, ends_at, (r.at k p n).below);
-            passed = λ q. ended.its_over q ∙ grind (arith, nat_tests);
+            place = record {
+              config = ended.its_schedule ∙ stage.place.config;
+              own = ended.its_own ∙ stage.place.own;
+              counts = counts_on ∙ omega (arith, turn, long, ends_at, (r.at k p n).below);
+              passed = λ q. ended.its_over q ∙ grind (arith, nat_tests);
+            };
             shows = let e : slot (suc k) 0 ≡ (k + 1) * n = omega arith in omega (arith, set_le, ap (λ m. m * s.length) e, next_of_first (suc k) p);
             read_fits =
                 ap length reads_next
                 ∙ long_as (table_length_of s.cluster) (place_in_cycle s.cluster k == s.cluster.faults) (r.value (suc k) p) (writes r k p n) stage.write_fits;
             write_fits =
-                ap length (written_next k first second ∙ ap (λ j. read_in j first second) (sym stage.counts) ∙ did_end.reads_on
-                ∙ ap (λ j. read_in j (r.first k p n) (r.second k p n)) stage.counts) ∙ stage.read_fits;
+                ap length (written_next k first second ∙ ap (λ j. read_in j first second) (sym stage.place.counts) ∙ did_end.reads_on
+                ∙ ap (λ j. read_in j (r.first k p n) (r.second k p n)) stage.place.counts) ∙ stage.read_fits;
             sixteen = ap length ended.its_heard ∙ length-replicate {A = Option ℤ} 16 None;
             unheard = λ q l. ap (λ heard. get_or heard q None) ended.its_heard ∙ none_there q;
             own_unheard = ap (λ heard. get_or heard p None) ended.its_heard ∙ none_there p;
@@ -493,21 +567,24 @@ module _ (s : Schedule) (r : Run) where
           }
 
   -- So what is due for a slot is due at its time, and what is due as the round ends too.
-  pub slot_due_is : (k p calls : ℕ) → Stage k p calls → Called s r k p calls → calls < n → due_of (r.node k p calls) ≡ slot_due s k p calls
-  slot_due_is k p calls stage called h =
-      elim (cases_eq calls p) [
-        | inl same ↦
-            due_to_send k p calls stage same h
-            ∙ ap (λ time. record { call = Send; time = time }) (sym (send_due k p calls stage called h same) ∙ sends_at k p calls stage called h same)
-            ∙ sym (rw (eq-eqb calls p same) refl)
-        | inr differs ↦
-            due_to_hear k p calls stage differs h
-            ∙ ap (λ time. record { call = SlotOver calls; time = time })
-            (sym (hear_due k p calls stage called h differs) ∙ hears_at k p calls stage called h differs)
-            ∙ sym (rw (ne_eqb calls p differs) refl)
-      ]
+  pub comes : (k p calls : ℕ) (stage : Stage k p calls) → Called s r k p calls → calls < n → Comes s r k p calls
+  comes k p calls stage called h =
+      record {
+        due =
+            elim (cases_eq calls p) [
+              | inl same ↦
+                  due_to_send k p calls stage.place same h
+                  ∙ ap (λ time. record { call = Send; time = time }) (sym (send_due k p calls stage h called same) ∙ sends_at k p calls stage h called same)
+                  ∙ sym (rw (eq-eqb calls p same, same) refl)
+              | inr differs ↦
+                  due_to_hear k p calls stage.place differs h
+                  ∙ ap (λ time. record { call = SlotOver calls; time = time }) (hears_from k p calls stage h called differs)
+                  ∙ sym (rw (ne_eqb calls p differs) refl)
+            ];
+        in_time = rw (lt-ltb calls n h) at stage.shows;
+      }
 
   pub end_due_is : (k p : ℕ) (stage : Stage k p n) → Called s r k p n → due_of (r.node k p n) ≡ record { call = RoundOver; time = round_end_of t k }
   end_due_is k p stage called =
-      due_to_end k p n stage (omega arith)
+      due_to_end k p n stage.place (omega arith)
       ∙ ap (λ time. record { call = RoundOver; time = time }) (sym (ends_due k p stage called) ∙ ends_at k p stage called)

@@ -28,3 +28,5 @@ NotConfigured config (ours.Schedule why) =
 NotConfigured config (ours.Time why) = ⊥
 NotConfigured config (ours.Frame why) = ⊥
 NotConfigured config (ours.Table why) = ⊥
+NotConfigured config ours.PastTheCluster = ⊥
+NotConfigured config ours.OutOfTurn = ⊥

@@ -1,7 +1,7 @@
 -- A node for which a round is over. Assumes nothing: these are definitions.
-use Rattle.std.specs.Prelude.{◌≡◌, ℕ, Bool, false, cond, not, List, [], None, Some, Option, replicate, filter, ◌==◌}
+use Rattle.std.specs.Prelude.{◌≡◌, ℕ, Bool, false, cond, not, List, [], None, Some, Option, Ok, Err, replicate, filter, ◌==◌}
 use Rattle.std.specs.List.{range_with_len}
-use Rattle.midpoint.specs.Setting.{most_readings}
+use Rattle.midpoint.specs.Setting.{SetSays, most_readings}
 use Rattle.clock.specs.Setting.{settled, readings, next_round_of}
 use Rattle.frame.specs.Layout.{place_in_cycle}
 use Rattle.frame.specs.Writing.{written_over}
@@ -11,9 +11,20 @@ use Rattle.relay.specs.Telling.{told_from, nothing_heard}
 use Rattle.relay.specs.Theorems.{EnteredAll}
 use Rattle.agreement.specs.Results.{results_of}
 use Rattle.node.specs.Nodes.{turn_of, read_in, written_in}
-use Rattle.node.specs.Calls.{unended, Leaves}
-use Rattle.node.specs.Hearing.{NothingDone}
+use Rattle.node.specs.Calls.{unended, NothingDone, Leaves}
 use Rattle.node.specs.declared.state.Node.{Node}
+use Rattle.node.specs.declared.ending.Setting.{Setting}
+use Rattle.node.specs.declared.ending.Setting.TheVariants.{SetTo, Kept}
+
+-- What became of the clock: it is set to the midpoint of the readings, or kept, where these are turned away.
+abbrev pub SettingSays : ℕ → List ℕ → Setting → Type 0
+SettingSays faults all (SetTo time) = SetSays faults all (Ok time)
+SettingSays faults all (Kept refusal) = SetSays faults all (Err refusal)
+
+-- and what it then shows
+abbrev pub shown_by : ℕ → Setting → ℕ
+shown_by time (SetTo set) = set
+shown_by time (Kept refusal) = time
 
 -- The nodes whose slots are not over yet as the round is. Of each of them nothing was heard; if it is this one, it holds what it would have told.
 abbrev pub missed : Node → List ℕ

@@ -8,10 +8,11 @@ use Rattle.frame.specs.Reading.{untaken}
 use Rattle.frame.specs.declared.turn.Turn.{Turn}
 use Rattle.relay.specs.Telling.{heard_in, nothing_heard, Entered}
 use Rattle.node.specs.Nodes.{turn_of, read_in, written_in}
-use Rattle.node.specs.Calls.{unheard, Passed, Leaves}
+use Rattle.node.specs.Calls.{unheard, Passed, NothingDone, Leaves}
 use Rattle.node.specs.declared.state.Node.{Node}
 
--- Of what a listener heard in a turn, what is taken: a frame that no check turns away. Else it is as if nothing had come.
+-- Of what a listener heard in a turn, what is taken: a frame that no check turns away. Else it is as if nothing had come. This is what a call promises; of the
+-- event, which says the same case by case, it follows.
 abbrev pub taken : Turn → Option (Received (List ℕ)) → Option (Received (List ℕ))
 taken t None = None
 taken t (Some received) = cond (is_none (first_applying (untaken t received.message))) (Some received) None
@@ -37,11 +38,6 @@ pub record HeardBy
     pub has_heard :
         HasHeard before time sender heard (written_in before.clock.round first second) after (written_in before.clock.round first_after second_after)
     pub reads_on : read_in before.clock.round first_after second_after ≡ read_in before.clock.round first second
-
-pub record NothingDone (before : Node) (first second : List ℕ) (after : Node) (first_after second_after : List ℕ) : Type 0 where
-  pub node : after ≡ before
-  pub first_stays : first_after ≡ first
-  pub second_stays : second_after ≡ second
 
 abbrev pub Hears : Node → ℕ → ℕ → Option (Received (List ℕ)) → List ℕ → List ℕ → Node → List ℕ → List ℕ → Type 0
 Hears before time sender heard first second after first_after second_after =

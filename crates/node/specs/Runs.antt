@@ -1,7 +1,6 @@
 -- A run of good nodes over any number of rounds, whatever the faulty ones do: the nodes as their drivers call them, with the tables and the memory that are
--- lent to them, and their clocks and messages. What holds of it, and that there are such runs, are statements that contracts of functions of
--- src/theorems.rt demand. Assumes nothing.
-use Rattle.std.specs.Prelude.{◌≡◌, ℕ, suc, ◌+◌, ◌<◌, ◌≤◌, Bool, cond, List, [], length, take, slice_index, Some, Option, ◌≢◌, ◌==◌}
+-- lent to them, and their clocks and messages. That there are such runs, specs/Possible.antt says. Assumes nothing.
+use Rattle.std.specs.Prelude.{◌≡◌, ℕ, suc, ◌+◌, ◌<◌, ◌≤◌, Bool, cond, List, length, take, slice_index, Some, Option, ◌≢◌, ◌==◌}
 use Rattle.midpoint.specs.Setting.{clock_limit}
 use Rattle.clock.specs.Config.{bound_of}
 use Rattle.clock.specs.Rounds.{Moment, GoodNode, FewBad, Apart}
@@ -15,12 +14,12 @@ use Rattle.schedule.specs.declared.listening.Arrival.{Arrival}
 use Rattle.schedule.specs.declared.listening.Received.{Received}
 use Rattle.frame.specs.Layout.{place_in_cycle, frame_length_of}
 use Rattle.frame.specs.Theorems.{Taken}
-use Rattle.relay.specs.Tables.{table_length_of, with_entry}
+use Rattle.relay.specs.Tables.{table_length_of}
 use Rattle.relay.specs.Telling.{told_from, Entered}
 use Rattle.relay.specs.Theorems.{turn_in}
-use Rattle.node.specs.Nodes.{turn_of, read_in, written_in, results_in}
-use Rattle.node.specs.Due.{due_of}
-use Rattle.node.specs.Starting.{Made}
+use Rattle.node.specs.Nodes.{turn_of, slot_in, read_in, written_in, results_in}
+use Rattle.node.specs.Due.{call_for, due_of}
+use Rattle.node.specs.Starting.{MadeWith}
 use Rattle.node.specs.Sending.{Sends}
 use Rattle.node.specs.Hearing.{Hears}
 use Rattle.node.specs.Ending.{Ends}
@@ -35,7 +34,8 @@ pub record Showing : Type 0 where
   pub shown : ℕ
   pub below : shown < clock_limit
 
--- What happens to good nodes.
+-- What happens to good nodes. A table or memory that stands behind one call and before the next is the same: nobody else writes to it. What a node's clock
+-- shows as a round begins is what the node has it set to.
 pub record Run : Type 0 where
   -- round, node, how many calls its driver has made in the round: the node, and the two tables that are lent to it
   pub node : ℕ → ℕ → ℕ → Node
@@ -48,7 +48,7 @@ pub record Run : Type 0 where
   pub filled : ℕ → ℕ → List ℕ
   pub value : ℕ → ℕ → ℕ
   -- round, node: when the round begins for it, by common time; and whether its clock shows something in it
-  pub begun : ℕ → ℕ → ℕ
+  pub starts : ℕ → ℕ → ℕ
   pub of_round : ℕ → ℕ → Showing → Bool
   -- round, receiver, sender: the receiver's clock as the sender's message of the round begins to arrive, and as it has ended
   pub begins : ℕ → ℕ → ℕ → Showing
@@ -61,7 +61,8 @@ pub record Run : Type 0 where
 abbrev pub sent : Run → ℕ → ℕ → List ℕ
 sent r k p = let node = r.node k p p in take (frame_length_of (turn_of node node.own)) (r.filled k p)
 
--- The same run as the schedule speaks of it: by the clocks and the messages.
+-- The same run as the schedule speaks of it: by the clocks and the messages. A node sends with its call number p, as many slots before its own are over then, and
+-- ends a round with the call behind those for all slots: that these calls do so is shown. All are sent the same.
 abbrev pub showing : Moment → Showing
 showing m = record { common = m.common; shown = m.clock.shown; below = m.clock.below }
 
@@ -74,7 +75,7 @@ round_counted r k p = (r.node k p 0).clock.round
 abbrev pub on_bus : Schedule → Run → bus.Run (List ℕ)
 on_bus s r = record {
   of_round = λ k p m. r.of_round k p (showing m);
-  starts = λ k p. record { common = r.begun k p; clock = (r.node k p 0).clock };
+  starts = λ k p. record { common = r.starts k p; clock = (r.node k p 0).clock };
   sends = λ k p. moment (r.at k p p) (round_counted r k p);
   ends = λ k p. moment (r.at k p s.cluster.nodes) (round_counted r k p);
   begins = λ k p q. moment (r.begins k p q) (round_counted r k p);
@@ -87,7 +88,7 @@ on_bus s r = record {
 
 -- What a node's listener for another one's slot in its round answers.
 abbrev pub listened : Schedule → Run → ℕ → ℕ → ℕ → ℕ → Option (Received (List ℕ))
-listened s r k p calls q = heard_in s (slot_of (timing_of s) (r.node k p calls).clock.round q) (r.opened k p q) (r.arrived k p q)
+listened s r k p calls q = heard_in s (slot_in (r.node k p calls) q) (r.opened k p q) (r.arrived k p q)
 
 -- What a call does, by its contract: the node and what is lent to it before and after. The call that ends a round leads to the next one.
 abbrev pub Does : Schedule → Run → ℕ → ℕ → ℕ → ℕ → Call → Type 0
@@ -101,13 +102,22 @@ Does s r k p calls time RoundOver =
     Ends (r.node k p calls) time (r.value (suc k) p) (r.first k p calls) (r.second k p calls) (r.node (suc k) p 0) (r.first (suc k) p 0)
     (r.second (suc k) p 0)
 
--- A driver makes the call that the node names, when its clock shows the time that the node names.
-pub record Called (s : Schedule) (r : Run) (k p calls : ℕ) : Type 0 where
-  pub in_time : (r.at k p calls).shown ≡ (due_of (r.node k p calls)).time
-  pub does : Does s r k p calls (due_of (r.node k p calls)).time (due_of (r.node k p calls)).call
+-- When a call is made that is due at a time, and where the next one is due at another: to send and to end a round just then; and that a slot is over then or later, but no
+-- later than the next call is due.
+abbrev pub MadeAt : Call → ℕ → ℕ → ℕ → Type 0
+MadeAt Send due next shown = shown ≡ due
+MadeAt (SlotOver q) due next shown = (due ≤ shown) × (shown ≤ next)
+MadeAt RoundOver due next shown = shown ≡ due
 
--- What is asked of a run over so many rounds, and of the next one as far as it goes: up to the call with which a node sends. Nothing is asked of the faulty
--- nodes, nor of what arrives from them. It is not asked that a call is taken, that a message is heard, or that a frame is not turned away.
+-- A driver makes the call that the node names, when its clock shows the time for it.
+pub record Called (s : Schedule) (r : Run) (k p calls : ℕ) : Type 0 where
+  pub on_time :
+      MadeAt (due_of (r.node k p calls)).call (due_of (r.node k p calls)).time (due_of (r.node k p (suc calls))).time (r.at k p calls).shown
+  pub does : Does s r k p calls (r.at k p calls).shown (due_of (r.node k p calls)).call
+
+-- What is asked of a run over so many rounds, and of the next one as far as it goes: up to the call with which a node sends, so that its message is in the run too, which could
+-- come early. Nothing is asked of the faulty nodes, nor of what arrives from them. It is not asked that a call is taken, that a message is heard, or that a frame is not
+-- turned away.
 pub record Lawful (s : Schedule) (good : ℕ → Bool) (rounds : ℕ) (r : Run) : Type 0 where
   -- clocks run off by no more than the drift in a round, messages between good nodes are carried in time, and their wires carry nothing else
   pub world : World s good rounds (on_bus s r)
@@ -119,26 +129,25 @@ pub record Lawful (s : Schedule) (good : ℕ → Bool) (rounds : ℕ) (r : Run) 
 
 -- the call for a slot of a round, and its time
 abbrev pub slot_due : Schedule → ℕ → ℕ → ℕ → Due
-slot_due s k p q =
-    cond (q == p) (record { call = Send; time = send_time_of (timing_of s) (slot_of (timing_of s) k p) })
-    (record { call = SlotOver q; time = slot_end_of (timing_of s) (slot_of (timing_of s) k q) })
+slot_due s k p q = record {
+  call = call_for p (Some q);
+  time = cond (q == p) (send_time_of (timing_of s) (slot_of (timing_of s) k q)) (slot_end_of (timing_of s) (slot_of (timing_of s) k q));
+}
 
--- How a good node is made: at a local time at which its first call is not over yet, with the value that it gives in its first cycle, and with two tables as long as
--- the cluster needs.
+-- How a good node is made: no later than its first call is due, with the value that it gives in its first cycle, and with two tables as long as the cluster needs.
 pub record Begins (s : Schedule) (r : Run) (p : ℕ) : Type 0 where
   pub time : ℕ
-  pub old : List ℕ
   pub early : time ≤ (slot_due s 0 p 0).time
-  pub made : Made s p time (r.node 0 p 0)
-  pub fits : length old ≡ table_length_of s.cluster
-  pub first : r.first 0 p 0 ≡ with_entry s.cluster [] (r.value 0 p) old
+  pub old : List ℕ
+  pub made : MadeWith s p time (r.value 0 p) old (r.node 0 p 0) (r.first 0 p 0)
+  pub first_fits : length old ≡ table_length_of s.cluster
   pub second_fits : length (r.second 0 p 0) ≡ table_length_of s.cluster
 
 -- How it starts: good nodes are made when their clocks are within the bound, and each before the first message of another good node begins to arrive.
 pub record Started (s : Schedule) (good : ℕ → Bool) (r : Run) : Type 0 where
   pub begins : (p : ℕ) → GoodNode s.cluster good p → Begins s r p
   pub near : Apart s.cluster good (bound_of s.cluster) ((on_bus s r).starts 0)
-  pub listens : (p q : ℕ) → GoodNode s.cluster good p → GoodNode s.cluster good q → (p ≢ q) → r.begun 0 p ≤ (r.begins 0 p q).common
+  pub listens : (p q : ℕ) → GoodNode s.cluster good p → GoodNode s.cluster good q → (p ≢ q) → r.starts 0 p ≤ (r.begins 0 p q).common
 
 -- the table that a node reads in a round, and the one that it writes, behind so many calls
 abbrev pub reads : Run → ℕ → ℕ → List ℕ
@@ -146,6 +155,11 @@ reads r k p = read_in k (r.first k p 0) (r.second k p 0)
 
 abbrev pub writes : Run → ℕ → ℕ → ℕ → List ℕ
 writes r k p calls = written_in k (r.first k p calls) (r.second k p calls)
+
+-- the call for a slot is due, and its time is not past
+pub record Comes (s : Schedule) (r : Run) (k p q : ℕ) : Type 0 where
+  pub due : due_of (r.node k p q) ≡ slot_due s k p q
+  pub in_time : (r.node k p q).clock.shown ≤ (slot_due s k p q).time
 
 -- A cycle that is over: any two good nodes have the same results, and for a good node that is the value that it gave.
 pub record Agreed (s : Schedule) (good : ℕ → Bool) (r : Run) (first : ℕ) : Type 0 where
@@ -161,13 +175,15 @@ pub record Agreed (s : Schedule) (good : ℕ → Bool) (r : Run) (first : ℕ) :
 pub record Standing (s : Schedule) (good : ℕ → Bool) (rounds : ℕ) (r : Run) : Type 0 where
   -- Good clocks stay together, good nodes hear each other, and nothing that they send overlaps: all that holds of a run on the bus.
   pub bus_stands : bus.Standing s good rounds (on_bus s r)
-  -- No call is turned away: in each round the driver makes the call for each slot in its turn, and then the one for the round, each at its time.
-  pub slots : (k p q : ℕ) → k < rounds → GoodNode s.cluster good p → q < s.cluster.nodes → due_of (r.node k p q) ≡ slot_due s k p q
+  -- No call is turned away: behind each the next one is due, in each round the one for each slot in its turn, and then the one for the round. And no setting takes a node
+  -- past the time of its next call.
+  pub slots : (k p q : ℕ) → k < rounds → GoodNode s.cluster good p → q < s.cluster.nodes → Comes s r k p q
+  pub slots_next : (p q : ℕ) → GoodNode s.cluster good p → q ≤ p → Comes s r rounds p q
   pub ends :
       (k p : ℕ) → k < rounds → GoodNode s.cluster good p →
       due_of (r.node k p s.cluster.nodes) ≡ record { call = RoundOver; time = round_end_of (timing_of s) k }
   -- The frame of a good node is turned away by no good node in its turn, and what they enter of it is what it tells from the table that it reads.
-  pub taken : (k q : ℕ) → k < rounds → GoodNode s.cluster good q → Taken (turn_in s.cluster k q) (sent r k q)
+  pub taken : (k q : ℕ) → k ≤ rounds → GoodNode s.cluster good q → Taken (turn_in s.cluster k q) (sent r k q)
   pub told :
       (k p q : ℕ) → k < rounds → GoodNode s.cluster good p → GoodNode s.cluster good q →
       Entered (turn_in s.cluster k q) (told_from (turn_in s.cluster k q) (reads r k q)) (writes r k p q) (writes r k p (suc q))

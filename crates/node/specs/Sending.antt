@@ -4,7 +4,7 @@ use Rattle.frame.specs.Layout.{value_count_of}
 use Rattle.frame.specs.Writing.{FirstFit, with_frame}
 use Rattle.relay.specs.Telling.{told_from, Entered}
 use Rattle.node.specs.Nodes.{turn_of, read_in, written_in}
-use Rattle.node.specs.Calls.{unsent, Passed, Leaves}
+use Rattle.node.specs.Calls.{unsent, Passed, NothingDone, Leaves}
 use Rattle.node.specs.declared.state.Node.{Node}
 
 -- A node that has sent what it tells from the table that it reads: the memory has the frame, and the written table its own entries.
@@ -22,13 +22,7 @@ pub record SentBy (before : Node) (time : ℕ) (first second memory : List ℕ) 
       (written_in before.clock.round first_after second_after) filled
   pub reads_on : read_in before.clock.round first_after second_after ≡ read_in before.clock.round first second
 
-pub record NothingSent (before : Node) (first second memory : List ℕ) (after : Node) (first_after second_after filled : List ℕ) : Type 0 where
-  pub node : after ≡ before
-  pub first_stays : first_after ≡ first
-  pub second_stays : second_after ≡ second
-  pub memory_stays : filled ≡ memory
-
 abbrev pub Sends : Node → ℕ → List ℕ → List ℕ → List ℕ → Node → List ℕ → List ℕ → List ℕ → Type 0
 Sends before time first second memory after first_after second_after filled =
     Leaves (unsent before time first second memory) (SentBy before time first second memory after first_after second_after filled)
-    (NothingSent before first second memory after first_after second_after filled)
+    (NothingDone before first second after first_after second_after × (filled ≡ memory))

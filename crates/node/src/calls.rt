@@ -2,7 +2,7 @@
 ghost use Rattle.std.specs.Prelude.{◌≡◌, ℕ, Ok, Err};
 ghost use Rattle.std.specs.Result.{MatchResult};
 ghost use Rattle.midpoint.specs.Refusals.{ByRows};
-ghost use Rattle.node.specs.Calls.{as_rows, around, unfit_tables, unusable, At, Passed};
+ghost use Rattle.node.specs.Calls.{as_rows, around, unfit_tables, At, Passed};
 
 use crate::refusal::Refusal;
 use crate::state::{Node, Step};
@@ -71,11 +71,4 @@ impl Node {
             },
         }
     }
-}
-
-// A node that is past the cluster, or whose turn it is not any more in this round.
-pub(crate) fn out_of_turn() -> Refusal
-    ensures { result ≡ unusable }
-{
-    Refusal::Table(relay::Refusal::Node { place: 0 })
 }

@@ -6,8 +6,8 @@ use crate::refusal::Refusal;
 use clock::Cluster;
 use schedule::Schedule;
 
-/// The numbers of a cluster and the times of its slots, as a line's papers have them. They are the same for all
-/// nodes of the cluster.
+/// The numbers of a cluster and the times of its slots, as they are laid down for a line. They are the same for
+/// all nodes of the cluster.
 #[derive(Clone, Copy, PartialEq, Eq, Debug)]
 pub struct Config {
     /// How many nodes there are.

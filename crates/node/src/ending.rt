@@ -1,14 +1,13 @@
 //! The end of a round.
-ghost use Rattle.std.specs.Prelude.{◌≡◌, ◌<◌, ◌≤◌, length};
+ghost use Rattle.std.specs.Prelude.{◌≡◌, ◌<◌, length, IfOk};
 ghost use Rattle.std.specs.Result.{MatchResult};
 ghost use Rattle.midpoint.specs.Refusals.{ByRows};
-ghost use Rattle.midpoint.specs.Setting.{SetSays};
 ghost use Rattle.clock.specs.Setting.{readings};
 ghost use Rattle.relay.specs.Tables.{table_length_of};
 ghost use Rattle.relay.specs.Telling.{Entered};
 ghost use Rattle.node.specs.Nodes.{turn_of};
 ghost use Rattle.node.specs.Calls.{unended};
-ghost use Rattle.node.specs.Ending.{Ends, Ended, Completed, is_last, results_after, value_missed};
+ghost use Rattle.node.specs.Ending.{Ends, Ended, Completed, SettingSays, shown_by, is_last, results_after, value_missed};
 
 use crate::refusal::Refusal;
 use crate::state::{Node, Step};
@@ -16,6 +15,15 @@ use agreement::results;
 use clock::Step as ClockStep;
 use midpoint::MAX_NODES;
 use relay::{NodeSet, Telling, begin_cycle, enter_silence};
+
+/// What became of a clock at the end of a round.
+#[derive(Clone, Copy, PartialEq, Eq, Debug)]
+pub enum Setting {
+    /// It was set, and shows this time.
+    SetTo(u64),
+    /// It was kept, since a reading was turned away; the round counts on all the same.
+    Kept(midpoint::Refusal),
+}
 
 impl Node {
     /// The round is over: the clock is set by what was heard in it, and shows what is answered, or stays as it is where the readings
@@ -30,8 +38,9 @@ impl Node {
         value: u32,
         first: &mut [u32],
         second: &mut [u32],
-    ) -> Step<Result<Result<u64, midpoint::Refusal>, Refusal>>
-        ensures answer { ByRows (unended self time first.old second.old) (λ e. e) (SetSays self.schedule.cluster.faults (readings self.schedule.cluster.nodes self.own time self.heard)) result.answer }
+    ) -> Step<Result<Setting, Refusal>>
+        ensures answer { ByRows (unended self time first.old second.old) (λ e. e) (SettingSays self.schedule.cluster.faults (readings self.schedule.cluster.nodes self.own time self.heard)) result.answer }
+        ensures shows { IfOk result.answer (λ setting. result.node.clock.shown ≡ shown_by time setting) }
         ensures leaves { Ends self time value first.old second.old result.node first.new second.new }
     {
         let outcome = if self.reads_first() {
@@ -49,8 +58,9 @@ impl Node {
         value: u32,
         read: &[u32],
         written: &mut [u32],
-    ) -> Result<Step<Result<u64, midpoint::Refusal>>, Refusal>
-        ensures answer { ByRows (unended self time read.now written.old) (λ e. e) (λ step. SetSays self.schedule.cluster.faults (readings self.schedule.cluster.nodes self.own time self.heard) step.answer) result }
+    ) -> Result<Step<Setting>, Refusal>
+        ensures answer { ByRows (unended self time read.now written.old) (λ e. e) (λ step. SettingSays self.schedule.cluster.faults (readings self.schedule.cluster.nodes self.own time self.heard) step.answer) result }
+        ensures shows { IfOk result (λ step. step.node.clock.shown ≡ shown_by time step.answer) }
         ensures leaves { MatchResult result (λ step. Ended self time value read.now written.old step.node written.new) (λ _. written.new ≡ written.old) }
     {
         let clock = self.at(time, self.fitting_tables(read, written))?;
@@ -71,6 +81,10 @@ impl Node {
             over: NodeSet::empty(),
             heard: [None; MAX_NODES],
             results,
+        };
+        let answer = match answer {
+            Ok(time) => Setting::SetTo(time),
+            Err(refusal) => Setting::Kept(refusal),
         };
         Ok(Step { node, answer })
     }

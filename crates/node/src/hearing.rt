@@ -3,22 +3,32 @@ ghost use Rattle.std.specs.Prelude.{◌≡◌, ◌<◌, length, slice_set};
 ghost use Rattle.std.specs.Result.{MatchResult};
 ghost use Rattle.midpoint.specs.Refusals.{ByRows};
 ghost use Rattle.midpoint.specs.Setting.{most_readings};
+ghost use Rattle.schedule.specs.Listening.{Opened};
 ghost use Rattle.relay.specs.Tables.{table_length_of};
 ghost use Rattle.relay.specs.Telling.{Entered};
-ghost use Rattle.node.specs.Nodes.{turn_of};
+ghost use Rattle.node.specs.Nodes.{turn_of, slot_in};
 ghost use Rattle.node.specs.Calls.{unheard, unheard_in};
 ghost use Rattle.node.specs.Events.{bytes_heard, Becomes, deviation_in};
 ghost use Rattle.node.specs.Hearing.{Hears, HasHeard, taken, values_of, deviation_of_taken};
 
-use crate::calls::out_of_turn;
 use crate::event::Event;
 use crate::refusal::Refusal;
 use crate::state::{Node, Step};
 use midpoint::MAX_NODES;
-use schedule::Received;
+use schedule::{Listener, Received};
 
 impl Node {
-    /// The slot of another node is over, in which a listener heard one message, or nothing. If it is a frame of this node in this
+    /// A listener for the slot of another node in this round. It has heard nothing yet, and has last seen the time that the node
+    /// knows of. Made as the round begins, or at the latest as the slot does, it misses nothing; what it answers when the slot
+    /// is over is for `slot_over`.
+    pub fn listener<M: Copy>(&self, sender: u8) -> Listener<M>
+        ensures { Opened self.now.schedule (slot_in self.now sender) self.now.clock.shown result }
+    {
+        let slot = self.schedule.slot(self.clock.round(), usize::from(sender));
+        Listener::new(self.schedule, slot, self.clock.shown())
+    }
+
+    /// The slot of another node is over, in which a listener heard one message, or nothing. If it is a frame of the sender in this
     /// round, its values are entered into the table that is written, and its deviation is kept for the setting; else it is turned
     /// away, and all is as if nothing had come: its values are 0, and no deviation is kept. What came is answered. A time of 10^12
     /// or more is refused, 3 at the own number; then tables of another length than the cluster needs, 10 at the length needed;
@@ -73,7 +83,7 @@ impl Node {
             || sender == self.own
             || self.over.has(usize::from(sender))
         {
-            return Err(out_of_turn());
+            return Err(Refusal::OutOfTurn);
         }
         Ok(())
     }

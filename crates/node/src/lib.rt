@@ -26,6 +26,7 @@ pub mod theorems;
 
 pub use config::Config;
 pub use due::{Call, Due};
+pub use ending::Setting;
 pub use event::Event;
 pub use refusal::Refusal;
 pub use state::{Node, Step};

@@ -5,7 +5,7 @@ ghost use Rattle.node.specs.declared.refusal.Refusal.TheVariants as ours;
 
 use midpoint::Code;
 
-/// Why a configuration or a call is turned away: a refusal of one of the crates below.
+/// Why a configuration or a call is turned away: by one of the crates below, or by the node itself.
 #[derive(Clone, Copy, PartialEq, Eq, Debug)]
 pub enum Refusal {
     /// The numbers of the cluster: 4 or 5.
@@ -16,8 +16,12 @@ pub enum Refusal {
     Time(clock::Refusal),
     /// The memory for a frame: 7 at its length.
     Frame(frame::Refusal),
-    /// A table, 10 at the length needed; or a node, 11 at 0.
+    /// A table: 10 at the length needed.
     Table(relay::Refusal),
+    /// The number of a node that the cluster does not have: 11 at 0.
+    PastTheCluster,
+    /// A slot that is over already in this round, or that is no other node's: 11 at 0.
+    OutOfTurn,
 }
 
 /// Numbers of a cluster that `clock` turns away.
@@ -56,7 +60,7 @@ impl From<frame::Refusal> for Refusal {
     }
 }
 
-/// A table or a node that `relay` turns away.
+/// A table that `relay` turns away.
 impl From<relay::Refusal> for Refusal {
     ghost from_gives = { λ refusal carried. carried ≡ ours.Table refusal };
 
@@ -76,6 +80,10 @@ impl From<Refusal> for Code {
             Refusal::Time(refusal) => Code::from(refusal),
             Refusal::Frame(refusal) => Code::from(refusal),
             Refusal::Table(refusal) => Code::from(refusal),
+            Refusal::PastTheCluster | Refusal::OutOfTurn => Code {
+                number: 11,
+                place: 0,
+            },
         }
     }
 }

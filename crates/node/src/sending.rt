@@ -10,7 +10,6 @@ ghost use Rattle.node.specs.Nodes.{turn_of};
 ghost use Rattle.node.specs.Calls.{unsent, unsent_in};
 ghost use Rattle.node.specs.Sending.{Sends, Sent};
 
-use crate::calls::out_of_turn;
 use crate::refusal::Refusal;
 use crate::state::{Node, Step};
 use frame::Turn;
@@ -71,7 +70,7 @@ impl Node {
         turn.fitting_memory(memory)?;
         self.fitting_tables(read, written)?;
         if self.over.has(usize::from(self.own)) {
-            return Err(out_of_turn());
+            return Err(Refusal::OutOfTurn);
         }
         Ok(())
     }

@@ -1,8 +1,6 @@
 //! What a node is between two calls.
-ghost use Rattle.std.specs.Prelude.{◌≡◌, ◌<◌, [], None, Some, MatchOption};
-ghost use Rattle.std.specs.Result.{MatchResult};
+ghost use Rattle.std.specs.Prelude.{◌≡◌, ◌<◌, None, Some, IfErr, MatchOption};
 ghost use Rattle.midpoint.specs.Refusals.{ByRows};
-ghost use Rattle.relay.specs.Tables.{with_entry};
 
 use crate::refusal::Refusal;
 use clock::{Clock, Step as ClockStep};
@@ -28,6 +26,7 @@ pub struct Node {
 }
 
 /// A node that went through a call, and the answer of the call.
+#[must_use]
 #[derive(Clone, Copy, PartialEq, Eq, Debug)]
 pub struct Step<A> {
     pub node: Node,
@@ -36,7 +35,7 @@ pub struct Step<A> {
 
 impl Node {
     ghost use Rattle.node.specs.Nodes.{turn_of, reads_first, results_in};
-    ghost use Rattle.node.specs.Starting.{unmade, Made};
+    ghost use Rattle.node.specs.Starting.{unmade, MadeWith};
 
     /// A node that has this number in the cluster, and gives this value in its first cycle. It begins in round 0, at a local time,
     /// with the first of its two tables, into which the value is put. A time of 10^12 or more is refused, 3 at the own number;
@@ -49,15 +48,15 @@ impl Node {
         value: u32,
         first: &mut [u32],
     ) -> Result<Node, Refusal>
-        ensures answer { ByRows (unmade schedule own time first.old) (λ e. e) (Made schedule own time) result }
-        ensures table { MatchResult result (λ _. first.new ≡ with_entry schedule.cluster [] value first.old) (λ _. first.new ≡ first.old) }
+        ensures made { ByRows (unmade schedule own time first.old) (λ e. e) (λ node. MadeWith schedule own time value first.old node first.new) result }
+        ensures table { IfErr result (λ _. first.new ≡ first.old) }
     {
         let cluster = schedule.cluster;
         let ClockStep { clock, answer } = Clock::new().go_on(usize::from(own), time);
         answer?;
         fitting_table(&cluster, first)?;
         if u64::from(own) >= cluster.nodes() {
-            return Err(Refusal::Table(relay::Refusal::Node { place: 0 }));
+            return Err(Refusal::PastTheCluster);
         }
         begin_cycle(&cluster, first, value)?;
         Ok(Node {
