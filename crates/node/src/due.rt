@@ -23,9 +23,15 @@ pub struct Due {
 }
 
 impl Node {
-    /// The call that comes next: for the first node, in their order, whose slot is not over yet, that it sends, if it is this
-    /// node, or that its slot is over; where all are over, that the round is over. And the local time for it: when the slot's node
-    /// starts to send in it, when the slot ends, or when the round does. A time past 2^64 - 1 is given as that.
+    /// The call that comes next, and the local time for it. The slots of a round are over one after the other: the next one is that of
+    /// the first node whose slot is not over yet.
+    ///
+    /// - If it is the own one, the node sends, when its clock shows the slot's start and the pause.
+    /// - If it is another node's, it is over when the clock shows the slot's end.
+    /// - If there is none, the round is over, when the clock shows its end.
+    ///
+    /// The time may be past, as it is where a node was made late, or a call was missed: then the call is to be made now. A time
+    /// past 2^64 - 1 is given as that.
     pub fn due(&self) -> Due
         ensures { result ≡ due_of self.now }
     {

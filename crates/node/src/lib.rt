@@ -1,5 +1,9 @@
 //! A node of the bus: what it does at each event.
 //!
+//! A driver makes a `Config` a schedule and with it a `Node`; asks it which call is `due`, and makes it at its time; opens a
+//! `listener` for each other node's slot, and tells it what arrives. Each of the two tables that it lends has `relay::table_length`
+//! numbers, the memory for a frame `frame::MAX_FRAME_LENGTH` bytes at most.
+//!
 //! - `config`: the numbers of a configuration, which are made a schedule or turned away.
 //! - `refusal`: why a call is turned away, with the refusals of the crates below.
 //! - `state`: what a node is between two calls, and which table it reads.

@@ -11,9 +11,14 @@ use schedule::Schedule;
 
 /// A node of the bus. It goes through each call by value, and comes back with the answer. It has its configuration and its
 /// number; its clock, which counts the rounds; of this round, whose slots are over and what was heard in them of other clocks;
-/// and the results of the last whole cycle. What was told is in two tables, which are lent to each call, always the same two in
-/// the same order: in an even round the node reads the first and writes the second, and in an odd one it reads the second and
-/// writes the first.
+/// and the results of the last whole cycle.
+///
+/// What was told is in two tables, which are lent to each call, always the same two in the same order: in an even round the node
+/// reads the first and writes the second, and in an odd one it reads the second and writes the first. Nobody else writes to them,
+/// and a node cannot see if they are handed over in the other order.
+///
+/// `due` says which call comes next and when. No call asks whether its time has come: it takes any local time that is not earlier
+/// than the last, and does what it does.
 #[derive(Clone, Copy, PartialEq, Eq, Debug)]
 pub struct Node {
     pub(crate) schedule: Schedule,
@@ -37,8 +42,9 @@ impl Node {
     ghost use Rattle.node.specs.Nodes.{turn_of, reads_first, results_in};
     ghost use Rattle.node.specs.Starting.{unmade, MadeWith};
 
-    /// A node that has this number in the cluster, and gives this value in its first cycle. It begins in round 0, at a local time,
-    /// with the first of its two tables, into which the value is put. A time of 10^12 or more is refused, 3 at the own number;
+    /// A node that has this number in the cluster, and gives this value in its first cycle. It begins in round 0, at a local time that
+    /// is not past its first due time if it is to miss nothing, with the first of its two tables, into which the value is put; what
+    /// the second one holds does not matter. A time of 10^12 or more is refused, 3 at the own number;
     /// then a table of another length than the cluster needs, 10 at the length needed; then a number past the cluster, 11 at 0.
     /// The table is then left as it was.
     pub fn new(
