@@ -75,20 +75,6 @@ impl Node {
         })
     }
 
-    /// Its configuration.
-    pub fn schedule(&self) -> &Schedule
-        ensures { result.now ≡ self.now.schedule }
-    {
-        &self.schedule
-    }
-
-    /// Its number.
-    pub fn own(&self) -> u8
-        ensures { result ≡ self.now.own }
-    {
-        self.own
-    }
-
     /// Its clock: the last local time that it knows of, and the round that it is in.
     pub fn clock(&self) -> Clock
         ensures { result ≡ self.now.clock }
@@ -121,6 +107,7 @@ impl Node {
     pub(crate) fn reads_first(&self) -> bool
         ensures { result ≡ reads_first self.now.clock.round }
     {
-        self.clock.round() % 2 == 0
+        let round = self.clock.round();
+        round % 2 == 0
     }
 }
