@@ -6,4 +6,4 @@ mod Others
 mod Agreeing
 pub mod Cycles
 mod Examples
-mod Possible
+pub mod Possible

@@ -22,17 +22,17 @@ use Rattle.agreement.specs.Theorems.{CycleCanBeRun}
 use Rattle.agreement.proofs.Cycles.{in_order, stands_among}
 
 -- numbers below 2^32: in a list that a function gives, and in one with another entry
-abbrev Small : List ℕ → Type 0
+abbrev pub Small : List ℕ → Type 0
 Small table = (index : ℕ) → slice_index table index < 2 ^ 32
 
-map_small : {X : Type 0} (f : X → ℕ) (xs : List X) (d : X) → ((x : X) → f x < 2 ^ 32) → Small (map f xs)
+pub map_small : {X : Type 0} (f : X → ℕ) (xs : List X) (d : X) → ((x : X) → f x < 2 ^ 32) → Small (map f xs)
 map_small f xs d small i =
     elim (cases_lt i (length xs)) [
       | inl h ↦ rw (get_or-map f xs i d 0 h) (small (get_or xs i d))
       | inr h ↦ rw (get_or_past (map f xs) i 0 (omega (arith, h, length-map xs f))) (omega arith)
     ]
 
-set_small : (xs : List ℕ) (at v : ℕ) → v < 2 ^ 32 → Small xs → Small (slice_set xs at v)
+pub set_small : (xs : List ℕ) (at v : ℕ) → v < 2 ^ 32 → Small xs → Small (slice_set xs at v)
 set_small xs at v small_v small i =
     elim (cases_eq i at) [
       | inl same ↦
@@ -44,7 +44,7 @@ set_small xs at v small_v small i =
     ]
 
 -- a table into which the first values of a list were put, for the first paths of a turn
-abbrev put_to : Turn → List ℕ → List ℕ → ℕ → List ℕ
+abbrev pub put_to : Turn → List ℕ → List ℕ → ℕ → List ℕ
 put_to t values table zero = table
 put_to t values table (suc count) = slice_set (put_to t values table count) (entry t (slice_index (indices_of t) count)) (slice_index values count)
 
@@ -62,16 +62,16 @@ put_first t values table (suc count) known long h =
     rw one at more
 
 -- and all of them
-abbrev put_all : Turn → List ℕ → List ℕ → List ℕ
+abbrev pub put_all : Turn → List ℕ → List ℕ → List ℕ
 put_all t values table = put_to t values table (length (indices_of t))
 
-put_is : (t : Turn) (values table : List ℕ) → t.sender < t.cluster.nodes → length table ≡ table_length_of t.cluster → length values ≡ length (paths_of t) →
+pub put_is : (t : Turn) (values table : List ℕ) → t.sender < t.cluster.nodes → length table ≡ table_length_of t.cluster → length values ≡ length (paths_of t) →
     Entered t values table (put_all t values table)
 put_is t values table known long many =
     entered_all t (slice_index values) values (length (indices_of t)) table (put_all t values table) refl
     (ap (λ n. map (slice_index values) (range_with_len 0 n)) (sym many) ∙ sym (list_by_index values)) (put_first t values table (length (indices_of t)) known long (omega arith))
 
-put_small : (t : Turn) (values table : List ℕ) (count : ℕ) → Small values → Small table → Small (put_to t values table count)
+pub put_small : (t : Turn) (values table : List ℕ) (count : ℕ) → Small values → Small table → Small (put_to t values table count)
 put_small t values table zero small_values small_table i = small_table i
 put_small t values table (suc count) small_values small_table i = set_small (put_to t values table count) (entry t (slice_index (indices_of t) count)) (slice_index values count)
     (small_values count) (put_small t values table count small_values small_table) i

@@ -50,8 +50,8 @@ module _ (s : Schedule) (good : ℕ → Bool) (rounds : ℕ) (r : Run) (law : La
         read_fits = ap length made.made.first ∙ length-set made.old 0 (r.value 0 p) ∙ made.first_fits;
         write_fits = made.second_fits;
         sixteen = ap length made.made.made.its_heard ∙ length-replicate {A = Option ℤ} 16 None;
-        unheard = λ q l. ap (λ heard. get_or heard q None) made.made.made.its_heard ∙ none_there s r q;
-        own_unheard = ap (λ heard. get_or heard p None) made.made.made.its_heard ∙ none_there s r p;
+        unheard = λ q l. ap (λ heard. get_or heard q None) made.made.made.its_heard ∙ none_there q;
+        own_unheard = ap (λ heard. get_or heard p None) made.made.made.its_heard ∙ none_there p;
         heard = λ q l other. absurd (omega (arith, l));
       }
 

@@ -1,8 +1,14 @@
 mod Completing
 mod Receiving
 mod Open
+mod Roles
 mod Accepted
+mod Filling
+mod Placing
 mod Stages
 mod Cycling
 mod Settings
 mod Carrying
+mod Firsts
+mod Noting
+mod Evolving

@@ -1,11 +1,11 @@
 -- What is known of a node behind each call of a run: no call is turned away, so behind the calls of a round it is in the next one. Assumes nothing.
-use Rattle.std.proofs.Common.{◌≡◌, ℕ, suc, ◌+◌, ◌*◌, ◌%◌, ◌<◌, ◌≤◌, min, true, false, cond, nat_lt, ◌==◌, ◌&&◌, ◌||◌, List, length, get_or, Some, None, Option, MatchOption, not, ◌⊎◌, is_none, refl, sym, ap, subst, ◌∙◌, inl, inr, add-mul, arith}
+use Rattle.std.proofs.Common.{◌≡◌, ℕ, suc, ◌+◌, ◌*◌, ◌<◌, ◌≤◌, min, true, false, cond, nat_lt, ◌==◌, ◌&&◌, ◌||◌, List, length, get_or, Some, None, Option, not, ◌⊎◌, is_none, refl, sym, ap, subst, ◌∙◌, inl, inr, add-mul, arith}
 use Rattle.std.specs.Option.{option_map}
-use Rattle.std.specs.List.{find, range_with_len}
-use Rattle.std.proofs.lemmas.Bool.{cases_Bool, cases_eq, eq-eqb, ne_eqb, eqb-true}
+use Rattle.std.specs.List.{range_with_len}
+use Rattle.std.proofs.lemmas.Bool.{cases_Bool, cases_eq, eq-eqb, ne_eqb}
 use Rattle.std.proofs.lemmas.Bool.Decides.{nat_tests}
 use Rattle.std.proofs.lemmas.List.{length-set, length-replicate, get_or-replicate, get_or_past, get_or-set_same, get_or-set_other}
-use Rattle.midpoint.specs.Refusals.{Row, first_applying}
+use Rattle.midpoint.specs.Refusals.{first_applying}
 use Rattle.midpoint.specs.Setting.{clock_limit}
 use Rattle.clock.specs.Deviation.{largest}
 use Rattle.clock.specs.Setting.{settled, readings, next_round_of}
@@ -19,20 +19,18 @@ use Rattle.node.specs.Ending.{missed, value_missed, is_last}
 use Rattle.node.proofs.Open.{none_left}
 use Rattle.schedule.proofs.Passing.{settles_no_farther}
 use Rattle.schedule.proofs.Answered.{none_or_from_slot}
-use Rattle.std.proofs.Common.{ℤ, Bool, [], filter, replicate, mul-le-mul_left}
-use Rattle.node.specs.Due.{call_for}
+use Rattle.std.proofs.Common.{ℤ, [], filter, replicate, mul-le-mul_left}
 use Rattle.node.specs.Nodes.{slot_in}
-use Rattle.std.proofs.Common.{mul-le-mul_right, mul-le-mul_left, add-mul}
+use Rattle.std.proofs.Common.{mul-le-mul_left, add-mul}
 use Rattle.node.specs.Runs.{MadeAt, Comes, reads}
 use Rattle.std.proofs.lemmas.Bool.{cases_lt, lt-ltb, le-ltb}
-use Rattle.node.specs.Runs.{slot_due}
 use Rattle.schedule.specs.Slots.{send_time_of}
 use Rattle.std.proofs.Common.{◌*◌}
 use Rattle.schedule.specs.Config.{timing_of}
 use Rattle.schedule.specs.Listening.{heard_in}
 use Rattle.schedule.specs.Runs.{answered}
 use Rattle.schedule.specs.declared.listening.Received.{Received}
-use Rattle.schedule.specs.Slots.{Timing, slot_of, slot_start, send_time_of, slot_end_of, round_end_of}
+use Rattle.schedule.specs.Slots.{Timing, slot_of, send_time_of, slot_end_of, round_end_of}
 use Rattle.schedule.specs.declared.limits.Schedule.{Schedule}
 use Rattle.frame.specs.Layout.{frame_length_of}
 use Rattle.frame.specs.Reading.{untaken}
@@ -41,60 +39,28 @@ use Rattle.relay.specs.Nodes.{among}
 use Rattle.relay.specs.Tables.{table_length_of}
 use Rattle.relay.specs.Telling.{told_from, Entered}
 use Rattle.relay.specs.Theorems.{turn_in}
-use Rattle.node.specs.Nodes.{turn_of, reads_first, read_in, written_in}
-use Rattle.node.specs.Calls.{unsent, unheard, unended, Leaves, Passed}
-use Rattle.node.specs.Due.{call_of, call_for, time_of, due_of, next_slot}
+use Rattle.node.specs.Nodes.{turn_of, read_in, written_in}
+use Rattle.node.specs.Calls.{unsent, unheard, unended, Passed}
+use Rattle.node.specs.Due.{due_of}
 use Rattle.node.specs.Sending.{SentBy}
 use Rattle.node.specs.Hearing.{taken, values_of, deviation_of_taken, HeardBy}
 use Rattle.node.specs.Ending.{EndedBy}
 use Rattle.node.specs.Runs.{Run, on_bus, listened, Does, Called, writes}
-use Rattle.node.specs.declared.refusal.Refusal.{Refusal}
 use Rattle.node.specs.declared.state.Node.{Node}
 use Rattle.node.specs.declared.due.Call.TheVariants.{Send, SlotOver, RoundOver}
 use Rattle.node.specs.declared.due.Due.{Due}
-use Rattle.node.proofs.Open.{finds, finds_none}
-use Rattle.node.proofs.Accepted.{Timely, sending_taken, hearing_taken, ending_taken, does_not_stop}
+use Rattle.node.proofs.Accepted.{Timely, done, sending_taken, hearing_taken, ending_taken, does_not_stop, slot_does_not_stop}
+use Rattle.node.proofs.Filling.{long_with_value}
+use Rattle.node.proofs.Roles.{by_role, read_next, written_next}
+use Rattle.node.proofs.Placing.{sending_at, over_at, next_time, sends_before, next_behind, next_of_first, Place, turn_is, due_to_send, due_to_hear, due_to_end, due_by}
 
--- both tables have a length if the two by their roles have it
-pub by_role : (round m : ℕ) (first second : List ℕ) → length (read_in round first second) ≡ m → length (written_in round first second) ≡ m →
-    (length first ≡ m) × (length second ≡ m)
-by_role round m first second =
-    elim (cases_Bool (reads_first round)) [
-      | inl even ↦ rw even (λ a b. (a, b))
-      | inr odd ↦ rw odd (λ a b. (b, a))
+-- nothing stands in a list of nothing
+pub none_there : (q : ℕ) → get_or {A = Option ℤ} (replicate 16 None) q None ≡ None
+none_there q =
+    elim (cases_lt q 16) [
+      | inl h ↦ get_or-replicate 16 q None None h
+      | inr h ↦ get_or_past (replicate 16 None) q None (omega (arith, h, length-replicate {A = Option ℤ} 16 None))
     ]
-
-odd_next : (round : ℕ) → reads_first round ≡ true → reads_first (suc round) ≡ false
-odd_next round even = let e : round % 2 ≡ 0 = eqb-true (round % 2) 0 even in grind (arith, nat_tests, e)
-
-even_next : (round : ℕ) → reads_first round ≡ false → reads_first (suc round) ≡ true
-even_next round odd = grind (arith, nat_tests, odd)
-
--- which table is read and which is written changes with each round
-pub read_next : (round : ℕ) (first second : List ℕ) → read_in (suc round) first second ≡ written_in round first second
-read_next round first second =
-    elim (cases_Bool (reads_first round)) [
-      | inl even ↦ rw (even, odd_next round even) refl
-      | inr odd ↦ rw (odd, even_next round odd) refl
-    ]
-
-pub written_next : (round : ℕ) (first second : List ℕ) → written_in (suc round) first second ≡ read_in round first second
-written_next round first second =
-    elim (cases_Bool (reads_first round)) [
-      | inl even ↦ rw (even, odd_next round even) refl
-      | inr odd ↦ rw (odd, even_next round odd) refl
-    ]
-
--- what a call does that no row turns away
-pub done : (rows : List (Row Refusal)) (did kept : Type 0) → first_applying rows ≡ None → Leaves rows did kept → did
-done rows did kept none leaves = subst (λ row. MatchOption row did (λ refusal. kept)) none leaves
-
--- when calls are due in a round
-abbrev sending_at : Schedule → ℕ → ℕ → ℕ
-sending_at s k own = min (send_time_of (timing_of s) (min (slot_of (timing_of s) k own) largest)) largest
-
-abbrev over_at : Schedule → ℕ → ℕ → ℕ
-over_at s k q = min (slot_end_of (timing_of s) (min (slot_of (timing_of s) k q) largest)) largest
 
 module _ (s : Schedule) (r : Run) where
   abbrev t : Timing
@@ -115,49 +81,10 @@ module _ (s : Schedule) (r : Run) where
   entered_of k p q =
       cond (q == p) (told_from (turn_in s.cluster k p) (read_in k (r.first k p q) (r.second k p q))) (values_of (turn_in s.cluster k q) (heard_of k p q))
 
-  min-le : (m : ℕ) → min m largest ≤ m
-  min-le m = omega arith
-
-  min-le_one_more : (m : ℕ) → min m largest + 1 ≤ m + 1
-  min-le_one_more m = omega arith
-
-  -- when the next call is due
-  abbrev pub next_time : ℕ → ℕ → ℕ → ℕ
-  next_time k p calls = cond (nat_lt calls n) (slot_due s k p calls).time (round_end_of t k)
-
-  -- that is not before the slot has begun, and of a round's first slot not before its pause is over
-  due_behind : (k p calls : ℕ) → slot_start t (slot k calls) + s.pause ≤ (slot_due s k p calls).time
-  due_behind k p calls =
-      elim (cases_eq calls p) [
-        | inl same ↦ rw (eq-eqb calls p same, same) (omega arith)
-        | inr differs ↦ rw (ne_eqb calls p differs) (omega (arith, add-mul (slot k calls) 1 s.length, s.behind))
-      ]
-
-  next_behind : (k p calls : ℕ) → calls < n → slot_end_of t (slot k calls) ≤ next_time k p (suc calls)
-  next_behind k p calls h =
-      elim (cases_lt (suc calls) n) [
-        | inl more ↦
-            let e : slot k calls + 1 ≡ slot k (suc calls) = omega arith in
-            rw (lt-ltb (suc calls) n more) (omega (arith, ap (λ m. m * s.length) e, due_behind k p (suc calls)))
-        | inr none ↦
-            let e : slot k calls + 1 ≡ (k + 1) * n = omega (arith, h, none) in
-            rw (le-ltb (suc calls) n (omega (arith, none))) (omega (arith, ap (λ m. m * s.length) e))
-      ]
-
-  next_of_first : (k p : ℕ) → slot_start t (slot k 0) + s.pause ≤ next_time k p 0
-  next_of_first k p = rw (lt-ltb 0 n (omega (arith, s.cluster.enough))) (due_behind k p 0)
-
-  -- What is known of a node in a round behind so many calls: where it is,
-  pub record Place (k p calls : ℕ) : Type 0 where
-    pub config : (r.node k p calls).schedule ≡ s
-    pub own : (r.node k p calls).own ≡ p
-    pub counts : (r.node k p calls).clock.round ≡ k
-    pub passed : (q : ℕ) → among (r.node k p calls).over q ≡ nat_lt q calls
-
-  -- and all else.
+  -- What is known of it besides.
   pub record Stage (k p calls : ℕ) : Type 0 where
-    pub place : Place k p calls
-    pub shows : (r.node k p calls).clock.shown ≤ next_time k p calls
+    pub place : Place s r k p calls
+    pub shows : (r.node k p calls).clock.shown ≤ next_time s k p calls
     pub read_fits : length (read_in k (r.first k p calls) (r.second k p calls)) ≡ table_length_of s.cluster
     pub write_fits : length (writes r k p calls) ≡ table_length_of s.cluster
     pub sixteen : length (r.node k p calls).heard ≡ 16
@@ -165,65 +92,11 @@ module _ (s : Schedule) (r : Run) where
     pub own_unheard : get_or (r.node k p calls).heard p None ≡ None
     pub heard : (q : ℕ) → q < calls → (q ≡ p → ⊥) → get_or (r.node k p calls).heard q None ≡ deviation_of_taken (heard_of k p q)
 
-  module _ (k p calls : ℕ) (place : Place k p calls) where
-    abbrev node : Node
-    node = r.node k p calls
-
-    turn_is : (q : ℕ) → turn_of node q ≡ turn_in s.cluster k q
-    turn_is q = λ i. turn_in (place.config i).cluster (place.counts i) q
-
-    next_is : calls < n → next_slot node ≡ Some calls
-    next_is h =
-        ap (λ m. find (λ q. not (among node.over q)) (range_with_len 0 m)) (ap (λ x. x.cluster.nodes) place.config)
-        ∙ finds (among node.over) calls place.passed 0 n (omega arith) (omega (arith, h))
-
-    next_is_none : n ≤ calls → next_slot node ≡ None
-    next_is_none h =
-        ap (λ m. find (λ q. not (among node.over q)) (range_with_len 0 m)) (ap (λ x. x.cluster.nodes) place.config)
-        ∙ finds_none (among node.over) calls place.passed 0 n (omega (arith, h))
-
-    -- the call that is due
-    due_to_send : calls ≡ p → calls < n → due_of node ≡ record { call = Send; time = sending_at s k p }
-    due_to_send same h =
-        let e : call_of node ≡ Send = ap (call_for node.own) (next_is h) ∙ rw (eq-eqb calls node.own (same ∙ sym place.own)) refl in
-        ap (λ call. record { call = call; time = time_of node call }) e
-        ∙ (λ i. record { call = Send; time = sending_at (place.config i) (place.counts i) (place.own i) })
-
-    due_to_hear : (calls ≡ p → ⊥) → calls < n → due_of node ≡ record { call = SlotOver calls; time = over_at s k calls }
-    due_to_hear differs h =
-        let e : call_of node ≡ SlotOver calls = ap (call_for node.own) (next_is h) ∙ rw (ne_eqb calls node.own (λ same. differs (same ∙ place.own))) refl in
-        ap (λ call. record { call = call; time = time_of node call }) e
-        ∙ (λ i. record { call = SlotOver calls; time = over_at (place.config i) (place.counts i) calls })
-
-    due_to_end : n ≤ calls → due_of node ≡ record { call = RoundOver; time = min (round_end_of t k) largest }
-    due_to_end h =
-        let e : call_of node ≡ RoundOver = ap (call_for node.own) (next_is_none h) in
-        ap (λ call. record { call = call; time = time_of node call }) e
-        ∙ (λ i. record { call = RoundOver; time = min (round_end_of (timing_of (place.config i)) (place.counts i)) largest })
-
-    -- it is due at its time, or, where numbers stop, before
-    due_by : (due_of node).time ≤ next_time k p calls
-    due_by =
-        elim (cases_lt calls n) [
-          | inl h ↦
-              elim (cases_eq calls p) [
-                | inl same ↦
-                    let e : (due_of node).time ≡ sending_at s k p = ap (λ due. due.time) (due_to_send same h) in
-                    rw (lt-ltb calls n h, eq-eqb calls p same) (rw same (omega (arith, rw same at e, mul-le-mul_right s.length (min-le (slot k p)))))
-                | inr differs ↦
-                    let e : (due_of node).time ≡ over_at s k calls = ap (λ due. due.time) (due_to_hear differs h) in
-                    rw (lt-ltb calls n h, ne_eqb calls p differs) (omega (arith, e, mul-le-mul_right s.length (min-le_one_more (slot k calls))))
-              ]
-          | inr h ↦
-              let e : (due_of node).time ≡ min (round_end_of t k) largest = ap (λ due. due.time) (due_to_end (omega (arith, h))) in
-              rw (le-ltb calls n (omega (arith, h))) (omega (arith, e))
-        ]
-
   module _ (k p calls : ℕ) (stage : Stage k p calls) where
     abbrev here : Node
     here = r.node k p calls
 
-    abbrev place : Place k p calls
+    abbrev place : Place s r k p calls
     place = stage.place
 
     -- What a call for a slot did.
@@ -253,26 +126,22 @@ module _ (s : Schedule) (r : Run) where
     on_reading same =
         subst (λ j. read_in j (r.first k p (suc calls)) (r.second k p (suc calls)) ≡ read_in j (r.first k p calls) (r.second k p calls)) place.counts same
 
-    sends_before : calls ≡ p → sending_at s k p ≤ slot_end_of t (slot k calls)
-    sends_before same =
-        rw same (omega (arith, mul-le-mul_right s.length (min-le (slot k p)), add-mul (slot k p) 1 s.length, s.behind))
-
     -- no call is made later than the next one is due
-    shown_before : calls < n → Called s r k p calls → Place k p (suc calls) → (r.at k p calls).shown ≤ next_time k p (suc calls)
+    shown_before : calls < n → Called s r k p calls → Place s r k p (suc calls) → (r.at k p calls).shown ≤ next_time s k p (suc calls)
     shown_before h called next =
         let as_due = λ (due : Due). MadeAt due.call due.time (due_of (r.node k p (suc calls))).time (r.at k p calls).shown in
         elim (cases_eq calls p) [
           | inl same ↦
-              let on_time : (r.at k p calls).shown ≡ sending_at s k p = subst as_due (due_to_send k p calls place same h) called.on_time in
-              omega (arith, on_time, sends_before same, next_behind k p calls h)
+              let on_time : (r.at k p calls).shown ≡ sending_at s k p = subst as_due (due_to_send s r k p calls place same h) called.on_time in
+              omega (arith, on_time, ap (λ q. slot_end_of t (slot k q)) same, sends_before s k p, next_behind s k p calls h)
           | inr differs ↦
               let on_time : (over_at s k calls ≤ (r.at k p calls).shown) × ((r.at k p calls).shown ≤ (due_of (r.node k p (suc calls))).time) =
-              subst as_due (due_to_hear k p calls place differs h) called.on_time in
-              omega (arith, on_time, due_by k p (suc calls) next)
+              subst as_due (due_to_hear s r k p calls place differs h) called.on_time in
+              omega (arith, on_time, due_by s r k p (suc calls) next)
         ]
 
     -- so much is known behind it
-    next_place : calls < n → Moved → Place k p (suc calls)
+    next_place : calls < n → Moved → Place s r k p (suc calls)
     next_place h moved =
         let e = moved.passes in
         record {
@@ -306,7 +175,7 @@ module _ (s : Schedule) (r : Run) where
         }
 
     -- a call at the time at which it is due, or later
-    timely : (time : ℕ) → time < clock_limit → next_time k p calls ≤ time → Timely here time (r.first k p calls) (r.second k p calls)
+    timely : (time : ℕ) → time < clock_limit → next_time s k p calls ≤ time → Timely here time (r.first k p calls) (r.second k p calls)
     timely time below late =
         let needed : table_length_of s.cluster ≡ table_length_of here.schedule.cluster = sym (ap (λ x. table_length_of x.cluster) place.config) in
         let (first_fits, second_fits) = by_role k (table_length_of s.cluster) (r.first k p calls) (r.second k p calls) stage.read_fits stage.write_fits in
@@ -327,7 +196,7 @@ module _ (s : Schedule) (r : Run) where
     module _ (h : calls < n) (called : Called s r k p calls) where
       module _ (same : calls ≡ p) where
         send_due : shown ≡ sending_at s k p
-        send_due = subst MadeAsDue (due_to_send k p calls place same h) called.on_time
+        send_due = subst MadeAsDue (due_to_send s r k p calls place same h) called.on_time
 
         pub sends_at : shown ≡ send_time_of t (slot k p)
         sends_at =
@@ -338,11 +207,11 @@ module _ (s : Schedule) (r : Run) where
             SentBy here shown (r.first k p calls) (r.second k p calls) (r.memory k p) (r.node k p (suc calls)) (r.first k p (suc calls))
             (r.second k p (suc calls)) (r.filled k p)
         did_send room =
-            let does = subst (λ due. Does s r k p calls shown due.call) (due_to_send k p calls place same h) called.does in
+            let does = subst (λ due. Does s r k p calls shown due.call) (due_to_send s r k p calls place same h) called.does in
             let own : turn_of here here.own ≡ turn_in s.cluster k p = λ i. turn_in (place.config i).cluster (place.counts i) (place.own i) in
             let long : frame_length_of (turn_of here here.own) ≤ length (r.memory k p) = rw own room in
             let free : among here.over here.own ≡ false = place.passed here.own ∙ grind (arith, nat_tests, place.own, same) in
-            let late : next_time k p calls ≤ shown = rw (lt-ltb calls n h, eq-eqb calls p same) (omega (arith, sends_at, ap (λ q. slot k q * s.length) same)) in
+            let late : next_time s k p calls ≤ shown = rw (lt-ltb calls n h, eq-eqb calls p same) (omega (arith, sends_at, ap (λ q. slot k q * s.length) same)) in
             done (unsent here shown (r.first k p calls) (r.second k p calls) (r.memory k p)) _ _
             (sending_taken here shown (r.first k p calls) (r.second k p calls) (timely shown (r.at k p calls).below late) (r.memory k p) long free) does
 
@@ -366,7 +235,7 @@ module _ (s : Schedule) (r : Run) where
 
       module _ (differs : calls ≡ p → ⊥) where
         hear_due : (over_at s k calls ≤ shown) × (shown ≤ (due_of (r.node k p (suc calls))).time)
-        hear_due = subst MadeAsDue (due_to_hear k p calls place differs h) called.on_time
+        hear_due = subst MadeAsDue (due_to_hear s r k p calls place differs h) called.on_time
 
         pub hears_from : over_at s k calls ≡ slot_end_of t (slot k calls)
         hears_from =
@@ -381,26 +250,25 @@ module _ (s : Schedule) (r : Run) where
         -- the slot is one whose number does not stop
         slot_is : slot_in here calls ≡ slot k calls
         slot_is =
-            let long : (slot k calls + 1) * 1 ≤ (slot k calls + 1) * s.length = mul-le-mul_left (slot k calls + 1) (omega (arith, s.behind, s.before)) in
             (λ i. min (slot_of (timing_of (place.config i)) (place.counts i) calls) largest)
-            ∙ omega (arith, long, hears_from, hear_due, (r.at k p calls).below)
+            ∙ slot_does_not_stop (slot k calls) s.length (omega (arith, s.behind, s.before)) (omega (arith, hears_from, hear_due, (r.at k p calls).below))
 
         did_hear :
             HeardBy here shown calls (listened s r k p calls calls) (r.first k p calls) (r.second k p calls) (r.node k p (suc calls))
             (r.first k p (suc calls)) (r.second k p (suc calls))
         did_hear =
-            let does = subst (λ due. Does s r k p calls shown due.call) (due_to_hear k p calls place differs h) called.does in
+            let does = subst (λ due. Does s r k p calls shown due.call) (due_to_hear s r k p calls place differs h) called.does in
             let free : among here.over calls ≡ false = place.passed calls ∙ grind (arith, nat_tests) in
             let known : calls < here.schedule.cluster.nodes = rw place.config h in
             let other : (calls == here.own) ≡ false = ne_eqb calls here.own (λ same. differs (same ∙ place.own)) in
-            let late : next_time k p calls ≤ shown = rw (lt-ltb calls n h, ne_eqb calls p differs) (omega (arith, hears_from, hear_due)) in
+            let late : next_time s k p calls ≤ shown = rw (lt-ltb calls n h, ne_eqb calls p differs) (omega (arith, hears_from, hear_due)) in
             done (unheard here shown calls (r.first k p calls) (r.second k p calls)) _ _
             (hearing_taken here shown (r.first k p calls) (r.second k p calls) (timely shown (r.at k p calls).below late) calls known other free) does
 
         moved_by_hearing : Moved
         moved_by_hearing =
             let by = did_hear in
-            let its = turn_is k p calls place calls in
+            let its = turn_is s r k p calls place calls in
             let answers : listened s r k p calls calls ≡ answered s (on_bus s r) k p calls =
             ap (λ m. heard_in s m (r.opened k p calls) (r.arrived k p calls)) slot_is in
             let took : taken (turn_of here calls) (listened s r k p calls calls) ≡ heard_of k p calls = (λ i. taken (its i) (answers i)) in
@@ -425,13 +293,6 @@ module _ (s : Schedule) (r : Run) where
             | inl same ↦ moved_by_sending same room
             | inr differs ↦ moved_by_hearing differs
           ]
-
-  pub none_there : (q : ℕ) → get_or {A = Option ℤ} (replicate 16 None) q None ≡ None
-  none_there q =
-      elim (cases_lt q 16) [
-        | inl h ↦ get_or-replicate 16 q None None h
-        | inr h ↦ get_or_past (replicate 16 None) q None (omega (arith, h, length-replicate {A = Option ℤ} 16 None))
-      ]
 
   -- what is heard of a node in a round is what the listener answers, or nothing
   or_nothing : (turn : Turn) (received : Option (Received (List ℕ))) →
@@ -462,7 +323,7 @@ module _ (s : Schedule) (r : Run) where
 
       pub ends_due : time ≡ min (round_end_of t k) largest
       ends_due =
-          subst (λ due. MadeAt due.call due.time (due_of (r.node k p (suc n))).time time) (due_to_end k p n stage.place (omega arith)) called.on_time
+          subst (λ due. MadeAt due.call due.time (due_of (r.node k p (suc n))).time time) (due_to_end s r k p n stage.place (omega arith)) called.on_time
 
       pub ends_at : time ≡ round_end_of t k
       ends_at = omega (arith, ends_due, (r.at k p n).below)
@@ -471,7 +332,7 @@ module _ (s : Schedule) (r : Run) where
           EndedBy last time (r.value (suc k) p) (r.first k p n) (r.second k p n) (r.node (suc k) p 0) (r.first (suc k) p 0)
           (r.second (suc k) p 0)
       did_end =
-          let does = subst (λ due. Does s r k p n time due.call) (due_to_end k p n stage.place (omega arith)) called.does in
+          let does = subst (λ due. Does s r k p n time due.call) (due_to_end s r k p n stage.place (omega arith)) called.does in
           let needed : table_length_of s.cluster ≡ table_length_of last.schedule.cluster = sym (ap (λ x. table_length_of x.cluster) stage.place.config) in
           let (first_fits, second_fits) = by_role k (table_length_of s.cluster) (r.first k p n) (r.second k p n) stage.read_fits stage.write_fits in
           let in_time : Timely last time (r.first k p n) (r.second k p n) = record {
@@ -531,13 +392,6 @@ module _ (s : Schedule) (r : Run) where
           (λ q h. none_or_from_slot s (slot k q) (r.opened k p q) (r.arrived k p q) (get_or last.heard q None) (either_heard q h)) in
           omega (arith, far, sets_to, ends_at)
 
-      long_as : (m : ℕ) (b : Bool) (value : ℕ) (table : List ℕ) → length table ≡ m → length (cond b (with_entry s.cluster [] value table) table) ≡ m
-      long_as m b value table long =
-          elim (cases_Bool b) [
-            | inl is ↦ rw is (length-set table 0 value ∙ long)
-            | inr not ↦ rw not long
-          ]
-
       -- so much is known as the next round begins
       pub next_round : Stage (suc k) p 0
       next_round =
@@ -553,10 +407,10 @@ module _ (s : Schedule) (r : Run) where
               counts = counts_on ∙ omega (arith, turn, long, ends_at, (r.at k p n).below);
               passed = λ q. ended.its_over q ∙ grind (arith, nat_tests);
             };
-            shows = let e : slot (suc k) 0 ≡ (k + 1) * n = omega arith in omega (arith, set_le, ap (λ m. m * s.length) e, next_of_first (suc k) p);
+            shows = let e : slot (suc k) 0 ≡ (k + 1) * n = omega arith in omega (arith, set_le, ap (λ m. m * s.length) e, next_of_first s (suc k) p);
             read_fits =
                 ap length reads_next
-                ∙ long_as (table_length_of s.cluster) (place_in_cycle s.cluster k == s.cluster.faults) (r.value (suc k) p) (writes r k p n) stage.write_fits;
+                ∙ long_with_value s.cluster (place_in_cycle s.cluster k == s.cluster.faults) (r.value (suc k) p) (writes r k p n) stage.write_fits;
             write_fits =
                 ap length (written_next k first second ∙ ap (λ j. read_in j first second) (sym stage.place.counts) ∙ did_end.reads_on
                 ∙ ap (λ j. read_in j (r.first k p n) (r.second k p n)) stage.place.counts) ∙ stage.read_fits;
@@ -573,11 +427,11 @@ module _ (s : Schedule) (r : Run) where
         due =
             elim (cases_eq calls p) [
               | inl same ↦
-                  due_to_send k p calls stage.place same h
+                  due_to_send s r k p calls stage.place same h
                   ∙ ap (λ time. record { call = Send; time = time }) (sym (send_due k p calls stage h called same) ∙ sends_at k p calls stage h called same)
                   ∙ sym (rw (eq-eqb calls p same, same) refl)
               | inr differs ↦
-                  due_to_hear k p calls stage.place differs h
+                  due_to_hear s r k p calls stage.place differs h
                   ∙ ap (λ time. record { call = SlotOver calls; time = time }) (hears_from k p calls stage h called differs)
                   ∙ sym (rw (ne_eqb calls p differs) refl)
             ];
@@ -586,5 +440,5 @@ module _ (s : Schedule) (r : Run) where
 
   pub end_due_is : (k p : ℕ) (stage : Stage k p n) → Called s r k p n → due_of (r.node k p n) ≡ record { call = RoundOver; time = round_end_of t k }
   end_due_is k p stage called =
-      due_to_end k p n stage.place (omega arith)
+      due_to_end s r k p n stage.place (omega arith)
       ∙ ap (λ time. record { call = RoundOver; time = time }) (sym (ends_due k p stage called) ∙ ends_at k p stage called)

@@ -22,7 +22,7 @@ use Rattle.schedule.proofs.Answered.{none_or_from_slot}
 use Rattle.schedule.proofs.Passing.{ahead_by, settles_no_farther, rises, in_round, behind_round}
 
 -- A clock at a later common time: it stands for the ticks that it loses, and then goes on.
-below_limit : (time : ℕ) → min time (clock_limit - 1) < clock_limit
+pub below_limit : (time : ℕ) → min time (clock_limit - 1) < clock_limit
 below_limit time = grind arith
 
 abbrev later : Moment → ℕ → ℕ → Moment
@@ -328,6 +328,7 @@ module _ {M : Type 0} (s : Schedule) (good : ℕ → Bool) (rounds : ℕ) (first
       first_start = λ p. refl;
       lost = λ k p h g.
           let le = early k p h g in let e = shows (starts k p) (losses k p) (due k p) le (due_below k p h g) in omega (arith, ints);
+      by_showing = λ k p a b same shows. rw (same, shows) refl;
       forward = λ k p a b. goes_forward (starts k p) (losses k p) a b;
       delayed = λ k p q. refl;
       lasted = λ k p q. refl;

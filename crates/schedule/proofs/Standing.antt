@@ -56,7 +56,7 @@ module _ {M : Type 0} (s : Schedule) (good : ℕ → Bool) (rounds : ℕ) (r : R
       none_or_from_slot s (slot k q) (r.opened k p q) (r.arrived k p q) (get_or (r.heard k p) q None) (duties.listened k p q h g l)
 
   -- whatever was heard, no clock is set farther ahead than by the pause
-  set_le : (k p : ℕ) → k < rounds → Good p → (r.starts (suc k) p).clock.shown ≤ round_end_of t k + s.pause
+  pub set_le : (k p : ℕ) → k < rounds → Good p → (r.starts (suc k) p).clock.shown ≤ round_end_of t k + s.pause
   set_le k p h g =
       let high = settles_no_farther s k (r.ends k p).clock.shown p (r.heard k p) (λ q l. from_slots k p q h g l) in
       omega (arith, high, (duties.setting k p h g).its_shown, duties.ending k p h g)

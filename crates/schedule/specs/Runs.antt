@@ -223,6 +223,9 @@ pub record RunGiven {M : Type 0}
   pub first_start : (p : ℕ) → run.starts 0 p ≡ first p
   pub lost :
       (k p : ℕ) → k ≤ rounds → GoodNode s.cluster good p → lead (run.sends k p) +ℤ pos (losses k p) ≡ lead (run.starts k p)
+  -- whether a moment is one of a round is told by its time and by what the clock shows, whatever round that counts
+  pub by_showing :
+      (k p : ℕ) (a b : Moment) → a.common ≡ b.common → a.clock.shown ≡ b.clock.shown → run.of_round k p a ≡ run.of_round k p b
   -- in a round no clock runs backwards
   pub forward :
       (k p : ℕ) (a b : Moment) → run.of_round k p a ≡ true → run.of_round k p b ≡ true → a.common ≤ b.common → a.clock.shown ≤ b.clock.shown
