@@ -12,3 +12,6 @@ mod Carrying
 mod Firsts
 mod Noting
 mod Evolving
+mod Building
+mod Worlds
+mod Entries
