@@ -15,3 +15,5 @@ mod Evolving
 mod Building
 mod Worlds
 mod Entries
+mod Calling
+mod Giving

@@ -1,12 +1,19 @@
 //! The theorems of this crate. Each function's contract is one statement of `specs/`, so that the crate is not proved
 //! without it; what the function does is nothing.
 ghost use Rattle.node.specs.Runs.{Stands};
+ghost use Rattle.node.specs.Possible.{RunCanBeGiven};
 ghost use Rattle.node.specs.Settings.{SetsCloser, SetsBetween};
 
 /// The main theorem: whatever the faulty nodes do, good nodes stay together, hear each other, do not overlap, and agree
 /// at the end of each cycle, over any number of rounds.
 pub fn good_nodes_stand()
     ensures { Stands }
+{}
+
+/// There are runs as the main theorem asks for, for as many rounds as clocks can show: whatever the faulty nodes send,
+/// and however clocks run and messages travel as far as they may.
+pub fn run_can_be_given()
+    ensures { RunCanBeGiven }
 {}
 
 /// Whatever good clocks are apart, the setting at the end of a round halves it, up to a rest.
