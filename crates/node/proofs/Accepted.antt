@@ -34,7 +34,7 @@ module _ (node : Node) (time : ℕ) (first second : List ℕ) (timely : Timely n
   pub ending_taken : first_applying (unended node time first second) ≡ None
   ending_taken = grind (arith, nat_tests, timely.below, timely.later, timely.first_fits, timely.second_fits)
 
--- What a call does that no row turns away is what it leaves, and what it leaves is what it does.
+-- What a call leaves that no row turns away is what it does, and the other way round.
 pub done : (rows : List (Row Refusal)) (did kept : Type 0) → first_applying rows ≡ None → Leaves rows did kept → did
 done rows did kept none leaves = subst (λ row. MatchOption row did (λ refusal. kept)) none leaves
 

@@ -1,14 +1,14 @@
 -- Runs of good nodes, made of a run on the bus and of the tables that they come to. Assumes nothing.
 use Rattle.std.proofs.Common.{◌≡◌, ℕ, zero, suc, ◌-◌, ◌%◌, ◌^◌, ◌<◌, ◌≤◌, min, Bool, cond, ◌==◌, List, length, slice_index, replicate, ℤ, Some, None, Option, ◌≢◌, inl, inr, refl, ap, ◌∙◌, arith}
 use Rattle.std.proofs.Math.Nat.{mod-eq_of_lt}
-use Rattle.std.proofs.lemmas.Nat.{mod_below}
 use Rattle.std.proofs.lemmas.Bool.{cases_eq, eq-eqb, ne_eqb}
 use Rattle.std.proofs.lemmas.List.{length-map}
+use Rattle.std.proofs.lemmas.Nat.{mod_below}
 use Rattle.midpoint.specs.Setting.{most_readings, clock_limit}
 use Rattle.clock.specs.Rounds.{FewBad}
 use Rattle.clock.specs.declared.limits.Cluster.{Cluster}
 use Rattle.schedule.specs.Config.{timing_of}
-use Rattle.schedule.specs.Runs.{World, OtherThan, Choice, OnOtherWires, TakesTheGood, answered, arrival_of, taken_by}
+use Rattle.schedule.specs.Runs.{Choice, answered}
 use Rattle.schedule.specs.Runs as bus
 use Rattle.schedule.specs.Slots.{Timing, slot_of, slot_end_of}
 use Rattle.schedule.specs.declared.limits.Schedule.{Schedule}
@@ -26,11 +26,11 @@ use Rattle.node.specs.Hearing.{taken, values_of, deviation_of_taken}
 use Rattle.node.specs.Runs.{Showing, Run, showing, moment}
 use Rattle.node.specs.Possible.{HoldBytes}
 use Rattle.node.specs.declared.state.Node.{Node}
-use Rattle.node.proofs.Evolving.{Tables, tables, memory, tells, said, tables_long, values_many, takes}
+use Rattle.node.proofs.Roles.{by_role, first_of, second_of, reads_it, writes_it, read_before, written_before}
 use Rattle.node.proofs.Filling.{put_of, put_long, put_enters}
 use Rattle.node.proofs.Firsts.{first_nodes}
-use Rattle.node.proofs.Roles.{by_role, first_of, second_of, reads_it, writes_it, read_before, written_before}
 use Rattle.node.proofs.Noting.{noted}
+use Rattle.node.proofs.Evolving.{Tables, tables, memory, tells, said, tables_long, values_many, takes}
 
 -- All that a run is made of: what is chosen of it, and a run on the bus in which each good node says what its tables tell.
 pub record Chosen : Type 0 where
@@ -159,14 +159,14 @@ module _ (x : Chosen) where
   next_writes k p = written_before k (reads (suc k) p) (reads k p)
 
   -- as long as they should be
-  pub each_many : (k p q : ℕ) → length (values k p q) ≡ length (paths_of (turn_in c k q))
+  each_many : (k p q : ℕ) → length (values k p q) ≡ length (paths_of (turn_in c k q))
   each_many k p q =
       elim (cases_eq q p) [
         | inl e ↦ rw (eq-eqb q p e, e) (length-map (paths_of (turn_in c k p)) (held_for c (reads k p)))
         | inr differs ↦ rw (ne_eqb q p differs) (values_many (turn_in c k q) (got k p q))
       ]
 
-  pub writes_long : (k p calls : ℕ) → calls ≤ n → length (writes k p calls) ≡ table_length_of c
+  writes_long : (k p calls : ℕ) → calls ≤ n → length (writes k p calls) ≡ table_length_of c
   writes_long k p calls h = put_long c k (values k p) ((round_tables k).writes p) calls h (each_many k p) ((tables_long s x.good x.value x.lies k).writes p)
 
   pub both_long : (k p calls : ℕ) → calls ≤ n → (length (run.first k p calls) ≡ table_length_of c) × (length (run.second k p calls) ≡ table_length_of c)

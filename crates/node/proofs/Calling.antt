@@ -6,7 +6,7 @@ use Rattle.clock.specs.Setting.{readings, next_round_of, settled}
 use Rattle.clock.specs.declared.limits.Cluster.{Cluster}
 use Rattle.schedule.specs.Config.{timing_of}
 use Rattle.schedule.specs.Listening.{heard_in}
-use Rattle.schedule.specs.Runs.{World, OtherThan, Choice, OnOtherWires, TakesTheGood, answered, arrival_of, taken_by}
+use Rattle.schedule.specs.Runs.{answered}
 use Rattle.schedule.specs.Runs as bus
 use Rattle.schedule.specs.Slots.{Timing, slot_of, send_time_of, slot_end_of}
 use Rattle.schedule.specs.declared.limits.Schedule.{Schedule}
@@ -17,21 +17,21 @@ use Rattle.frame.specs.Writing.{FirstFit, with_frame}
 use Rattle.relay.specs.Nodes.{among, added}
 use Rattle.relay.specs.Telling.{told_from, Entered}
 use Rattle.relay.specs.Theorems.{turn_in, EnteredAll}
-use Rattle.node.specs.Calls.{Passed, unsent, unheard, unended}
 use Rattle.node.specs.Due.{due_of}
+use Rattle.node.specs.Calls.{Passed, unsent, unheard, unended}
 use Rattle.node.specs.Sending.{Sent, SentBy}
 use Rattle.node.specs.Hearing.{values_of, deviation_of_taken, HasHeard, HeardBy}
 use Rattle.node.specs.Ending.{Ended, EndedBy, value_missed, missed}
 use Rattle.node.specs.Runs.{Run, listened, Does, MadeAt, Called}
 use Rattle.node.specs.declared.due.Call.{Call}
 use Rattle.node.specs.declared.due.Call.TheVariants.{Send, SlotOver, RoundOver}
+use Rattle.node.proofs.Open.{none_left}
 use Rattle.node.proofs.Accepted.{Timely, is_done, sending_taken, hearing_taken, ending_taken, slot_does_not_stop}
+use Rattle.node.proofs.Placing.{next_time, next_behind, next_of_first, Place, due_to_send, due_to_hear, due_to_end, due_by, due_from, due_then}
+use Rattle.node.proofs.Firsts.{first_nodes, among_first, none_first, one_more_first}
+use Rattle.node.proofs.Evolving.{next_table, tells, says_small, zeros_long}
 use Rattle.node.proofs.Building.{Chosen, bus_run, node_run, own, own_is, at, shows, got, heard, values, reads, writes, node, reads_in, writes_in, next_reads, next_writes, both_long, enters, at_own, at_end, at_other}
 use Rattle.node.proofs.Entries.{Good, stands_so, reads_as_bus, written_so}
-use Rattle.node.proofs.Evolving.{next_table, tells, says_small, zeros_long}
-use Rattle.node.proofs.Firsts.{first_nodes, among_first, none_first, one_more_first}
-use Rattle.node.proofs.Open.{none_left}
-use Rattle.node.proofs.Placing.{next_time, next_behind, next_of_first, Place, due_to_send, due_to_hear, due_to_end, due_by, due_from, due_then}
 
 module _ (x : Chosen) where
   abbrev s : Schedule
@@ -55,7 +55,7 @@ module _ (x : Chosen) where
   abbrev Made : ℕ → ℕ → ℕ → Type 0
   Made k p q = Called s run k p q
 
-  -- when a node sends, and has its clock as a round begins
+  -- when a node sends, and what its clock shows at most as a round begins
   sends_then : (k p : ℕ) → k ≤ x.rounds → Good x p → (at x k p p).shown ≡ send_time_of t (slot_of t k p)
   sends_then k p h g = ap (λ m. m.shown) (at_own x k p p refl) ∙ x.given.lawful.duties.sending k p h g
 
@@ -64,7 +64,7 @@ module _ (x : Chosen) where
   starts_by (suc k) p h g =
       omega (arith, set_le s x.good x.rounds r x.few x.given.lawful.world x.given.lawful.duties k p h g, behind_round s k 0)
 
-  -- A call is made when the slot is over at the latest, and the next one is not due before that.
+  -- A call is made when the slot is over at the latest, and the next one is not due before that: so no clock shows more than the time of the next call.
   by_then : (k p q : ℕ) → k ≤ x.rounds → Good x p → q < n → (at x k p q).shown ≤ slot_end_of t (slot_of t k q)
   by_then k p q h g l =
       elim (cases_eq q p) [
@@ -91,14 +91,14 @@ module _ (x : Chosen) where
     passed = λ other. among_first q other (omega (arith, l, c.most));
   }
 
-  -- and a call is in time, where it is made at the time of the next one or later.
+  -- and a call that is not made before its time is taken by its time and its tables.
   timely : (k p q : ℕ) → k ≤ x.rounds → Good x p → q ≤ n → next_time s k p q ≤ (at x k p q).shown →
       Timely (node x k p q) (at x k p q).shown (run.first k p q) (run.second k p q)
   timely k p q h g l late =
       let (first_fits, second_fits) = both_long x k p q l in
       record { below = (at x k p q).below; later = omega (arith, late, shows_by k p q h g l); first_fits = first_fits; second_fits = second_fits }
 
-  -- where that is done, it is called
+  -- A call is the one that is due where the node names it and it is made when it should be.
   called_as : (k p q : ℕ) (call : Call) → (due_of (node x k p q)).call ≡ call →
       MadeAt call (due_of (node x k p q)).time (due_of (node x k p (suc q))).time (at x k p q).shown → Does s run k p q (at x k p q).shown call → Made k p q
   called_as k p q call is on_time does = record {

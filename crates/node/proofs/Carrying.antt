@@ -25,7 +25,8 @@ use Rattle.relay.proofs.Relaying.{heard_as_told}
 use Rattle.node.specs.Nodes.{turn_of, read_in}
 use Rattle.node.specs.Hearing.{taken, values_of, deviation_of_taken}
 use Rattle.node.specs.Runs.{Run, on_bus, sent, Called, Lawful, Started, Standing, Stands, reads, writes}
-use Rattle.node.proofs.Stages.{Stage, Moved, heard_of, entered_of, moves, next_stage, next_round, none_there, sends_at, did_send, either_heard, ends_at, sets_to, counts_on, reads_next, results_next, comes, end_due_is}
+use Rattle.node.proofs.Stages.{Stage, Moved, heard_of, entered_of, moves, next_stage, sends_at, did_send, comes}
+use Rattle.node.proofs.Rounds.{next_round, none_there, either_heard, ends_at, sets_to, counts_on, reads_next, results_next, end_due_is}
 use Rattle.node.proofs.Cycling.{Kept, agreed}
 
 module _ (s : Schedule) (good : ℕ → Bool) (rounds : ℕ) (r : Run) (law : Lawful s good rounds r) (start : Started s good r) where

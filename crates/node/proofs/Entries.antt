@@ -9,7 +9,7 @@ use Rattle.clock.specs.Setting.{readings}
 use Rattle.clock.specs.declared.limits.Cluster.{Cluster}
 use Rattle.schedule.specs.Config.{timing_of}
 use Rattle.schedule.specs.Listening.{heard_in}
-use Rattle.schedule.specs.Runs.{World, OtherThan, Choice, OnOtherWires, TakesTheGood, answered, arrival_of, taken_by}
+use Rattle.schedule.specs.Runs.{answered}
 use Rattle.schedule.specs.Runs as bus
 use Rattle.schedule.specs.Slots.{Timing, slot_of, send_time_of}
 use Rattle.schedule.specs.declared.limits.Schedule.{Schedule}
@@ -17,14 +17,13 @@ use Rattle.schedule.specs.declared.listening.Received.{Received}
 use Rattle.schedule.proofs.Standing.{stands}
 use Rattle.frame.specs.Layout.{payload_of}
 use Rattle.frame.specs.Reading.{untaken}
-use Rattle.relay.specs.Telling.{paths_of, told_from, Entered}
 use Rattle.relay.specs.Telling as of_tables
 use Rattle.relay.specs.Theorems.{turn_in}
 use Rattle.node.specs.Hearing.{taken, values_of, deviation_of_taken}
 use Rattle.node.specs.Runs.{Run}
-use Rattle.node.proofs.Evolving.{lied, told, written, tells, said, said_taken, said_told, takes_as}
 use Rattle.node.proofs.Filling.{put_same}
 use Rattle.node.proofs.Noting.{noted_at, readings_same}
+use Rattle.node.proofs.Evolving.{lied, told, written, tells, said, said_taken, said_told, takes_as}
 use Rattle.node.proofs.Building.{Chosen, bus_run, node_run, round_tables, got, heard, values, writes}
 
 module _ (x : Chosen) where

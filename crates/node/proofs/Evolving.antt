@@ -23,7 +23,7 @@ use Rattle.frame.proofs.Bytes.{drop_bytes}
 use Rattle.frame.proofs.Frames.{round_trip}
 use Rattle.frame.proofs.Payloads.{values_fit}
 use Rattle.relay.specs.Tables.{table_length_of, held_for, with_entry}
-use Rattle.relay.specs.Telling.{paths_of, told_from, nothing_heard}
+use Rattle.relay.specs.Telling.{paths_of, told_from}
 use Rattle.relay.specs.Telling as of_tables
 use Rattle.relay.specs.Theorems.{turn_in}
 use Rattle.relay.proofs.Entering.{told_fits}
@@ -40,7 +40,7 @@ zeros count = map (λ index. 0) (range_with_len 0 count)
 pub zeros_long : (count : ℕ) → length (zeros count) ≡ count
 zeros_long count = length-map-range_with_len (λ index. 0) 0 count
 
-pub zeros_small : (count : ℕ) → Small (zeros count)
+zeros_small : (count : ℕ) → Small (zeros count)
 zeros_small count = map_small (λ index. 0) (range_with_len 0 count) 0 (λ index. omega arith)
 
 -- What a listener answers holds bytes where all that it is told of does.
@@ -132,7 +132,7 @@ module _ (s : Schedule) (good : ℕ → Bool) (value : ℕ → ℕ → ℕ) (lie
   said k q = written_frame (turn_in s.cluster k q) (slice_index (tells k q)) (memory k q)
 
   -- all tables are as long as they should be
-  pub told_many : (read : ℕ → List ℕ) (k p q : ℕ) → length (told read k p q) ≡ length (paths_of (turn_in s.cluster k q))
+  told_many : (read : ℕ → List ℕ) (k p q : ℕ) → length (told read k p q) ≡ length (paths_of (turn_in s.cluster k q))
   told_many read k p q =
       let t = turn_in s.cluster k q in
       elim (cases_Bool (good q)) [

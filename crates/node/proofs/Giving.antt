@@ -2,10 +2,8 @@
 use Rattle.std.proofs.Common.{◌≡◌, ℕ, suc, ◌+◌, ◌<◌, is_none, List, ◌∷◌, inl, inr, sym, refl, ap, subst, ◌∙◌, add-mul, arith}
 use Rattle.std.proofs.lemmas.Bool.{cases_lt, cases_eq}
 use Rattle.clock.specs.declared.limits.Cluster.{Cluster}
-use Rattle.schedule.specs.Config.{timing_of}
-use Rattle.schedule.specs.Runs.{World, OtherThan, Choice, OnOtherWires, TakesTheGood, answered, arrival_of, taken_by}
+use Rattle.schedule.specs.Runs.{TakesTheGood}
 use Rattle.schedule.specs.Runs as bus
-use Rattle.schedule.specs.Slots.{Timing}
 use Rattle.schedule.specs.declared.limits.Schedule.{Schedule}
 use Rattle.schedule.proofs.Running.{run_can_be_given_lem as run_on_the_bus}
 use Rattle.frame.specs.Layout.{frame_length_of}
@@ -13,13 +11,13 @@ use Rattle.relay.specs.Tables.{table_length_of}
 use Rattle.relay.specs.Theorems.{turn_in}
 use Rattle.node.specs.Runs.{Run, showing, moment, Called, Lawful, Started}
 use Rattle.node.specs.Possible.{RunGiven, RunCanBeGiven}
-use Rattle.node.proofs.Building.{Chosen, bus_run, node_run, own_is, at_own}
-use Rattle.node.proofs.Calling.{ends_below, called_send, called_slot, called_end}
-use Rattle.node.proofs.Entries.{stands_so}
-use Rattle.node.proofs.Evolving.{said, said_taken, takes, zeros, zeros_long}
-use Rattle.node.proofs.Firsts.{none_first}
 use Rattle.node.proofs.Placing.{due_behind}
+use Rattle.node.proofs.Firsts.{none_first}
+use Rattle.node.proofs.Evolving.{said, said_taken, takes, zeros, zeros_long}
+use Rattle.node.proofs.Building.{Chosen, bus_run, node_run, own_is, at_own}
 use Rattle.node.proofs.Worlds.{arrival_is, world}
+use Rattle.node.proofs.Entries.{stands_so}
+use Rattle.node.proofs.Calling.{ends_below, called_send, called_slot, called_end}
 
 module _ (x : Chosen) where
   abbrev s : Schedule
@@ -30,9 +28,6 @@ module _ (x : Chosen) where
 
   abbrev n : ℕ
   n = x.s.cluster.nodes
-
-  abbrev t : Timing
-  t = timing_of x.s
 
   abbrev r : bus.Run (List ℕ)
   r = bus_run x

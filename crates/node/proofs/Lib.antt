@@ -6,6 +6,7 @@ mod Accepted
 mod Filling
 mod Placing
 mod Stages
+mod Rounds
 mod Cycling
 mod Settings
 mod Carrying

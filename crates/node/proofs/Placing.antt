@@ -1,25 +1,19 @@
 -- Where a node is behind each call of a run, which call is then due, and when. Assumes nothing.
-use Rattle.std.proofs.Common.{◌≡◌, ℕ, suc, ◌+◌, ◌*◌, ◌<◌, ◌≤◌, min, cond, nat_lt, Some, None, not, refl, sym, ap, ◌∙◌, inl, inr, add-mul, arith}
+use Rattle.std.proofs.Common.{◌≡◌, ℕ, suc, ◌+◌, ◌*◌, ◌<◌, ◌≤◌, min, cond, nat_lt, Some, None, not, refl, sym, ap, ◌∙◌, inl, inr, add-mul, arith, mul-le-mul_right}
 use Rattle.std.specs.List.{find, range_with_len}
-use Rattle.std.proofs.lemmas.Bool.{cases_eq, eq-eqb, ne_eqb}
+use Rattle.std.proofs.lemmas.Bool.{cases_eq, eq-eqb, ne_eqb, cases_lt, lt-ltb, le-ltb}
 use Rattle.midpoint.specs.Setting.{clock_limit}
 use Rattle.clock.specs.Deviation.{largest}
-use Rattle.node.specs.Due.{call_for}
-use Rattle.std.proofs.Common.{mul-le-mul_right, add-mul}
-use Rattle.std.proofs.lemmas.Bool.{cases_lt, lt-ltb, le-ltb}
-use Rattle.node.specs.Runs.{slot_due}
-use Rattle.schedule.specs.Slots.{send_time_of}
-use Rattle.std.proofs.Common.{◌*◌}
 use Rattle.schedule.specs.Config.{timing_of}
-use Rattle.schedule.specs.Slots.{Timing, slot_of, slot_start, send_time_of, slot_end_of, round_end_of}
+use Rattle.schedule.specs.Slots.{send_time_of, Timing, slot_of, slot_start, slot_end_of, round_end_of}
 use Rattle.schedule.specs.declared.limits.Schedule.{Schedule}
 use Rattle.relay.specs.Nodes.{among}
 use Rattle.relay.specs.Theorems.{turn_in}
 use Rattle.node.specs.Nodes.{turn_of}
-use Rattle.node.specs.Due.{call_of, call_for, time_of, due_of, next_slot}
-use Rattle.node.specs.Runs.{Run}
-use Rattle.node.specs.declared.state.Node.{Node}
+use Rattle.node.specs.Due.{call_for, call_of, time_of, due_of, next_slot}
+use Rattle.node.specs.Runs.{slot_due, Run}
 use Rattle.node.specs.declared.due.Call.TheVariants.{Send, SlotOver, RoundOver}
+use Rattle.node.specs.declared.state.Node.{Node}
 use Rattle.node.proofs.Open.{finds, finds_none}
 use Rattle.node.proofs.Accepted.{stops_behind}
 
@@ -40,6 +34,7 @@ module _ (s : Schedule) where
   abbrev slot : ℕ → ℕ → ℕ
   slot k p = slot_of t k p
 
+  -- numbers that stop are no larger, so a node sends before its slot is over
   min-le : (m : ℕ) → min m largest ≤ m
   min-le m = omega arith
 

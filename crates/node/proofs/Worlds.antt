@@ -2,12 +2,8 @@
 use Rattle.std.proofs.Common.{◌≡◌, ℕ, ◌<◌, ◌≤◌, true, List, [], ◌∷◌, ◌++◌, take, sym, refl, ap, subst, ◌∙◌}
 use Rattle.std.specs.List.{AllByRecursion}
 use Rattle.clock.specs.Rounds.{Moment}
-use Rattle.clock.specs.declared.limits.Cluster.{Cluster}
-use Rattle.schedule.specs.Config.{timing_of}
-use Rattle.schedule.specs.Runs.{World, OtherThan, Choice, OnOtherWires, TakesTheGood, answered, arrival_of, taken_by}
+use Rattle.schedule.specs.Runs.{World, OtherThan, arrival_of}
 use Rattle.schedule.specs.Runs as bus
-use Rattle.schedule.specs.Slots.{Timing}
-use Rattle.schedule.specs.declared.limits.Schedule.{Schedule}
 use Rattle.schedule.specs.declared.listening.Arrival.{Arrival}
 use Rattle.frame.specs.Layout.{frame_length_of}
 use Rattle.relay.specs.Theorems.{turn_in}
@@ -15,17 +11,8 @@ use Rattle.node.specs.Runs.{Showing, Run, sent, showing, moment, on_bus}
 use Rattle.node.proofs.Building.{Chosen, bus_run, node_run, own_is, at, at_own, at_end}
 
 module _ (x : Chosen) where
-  abbrev s : Schedule
-  s = x.s
-
-  abbrev c : Cluster
-  c = x.s.cluster
-
   abbrev n : ℕ
   n = x.s.cluster.nodes
-
-  abbrev t : Timing
-  t = timing_of x.s
 
   abbrev r : bus.Run (List ℕ)
   r = bus_run x
@@ -33,12 +20,12 @@ module _ (x : Chosen) where
   abbrev run : Run
   run = node_run x
 
-  abbrev pub on : bus.Run (List ℕ)
-  on = on_bus s run
+  abbrev on : bus.Run (List ℕ)
+  on = on_bus x.s run
 
   -- what a good node sends is what it says on the bus, and arrives there
   said_is : (k q : ℕ) → q < n → sent run k q ≡ r.said k q
-  said_is k q h = ap (λ o. take (frame_length_of (turn_in c k o)) (run.filled k q)) (own_is x q h) ∙ sym (x.given.says k q)
+  said_is k q h = ap (λ o. take (frame_length_of (turn_in x.s.cluster k o)) (run.filled k q)) (own_is x q h) ∙ sym (x.given.says k q)
 
   pub arrival_is : (k p q : ℕ) → q < n → arrival_of on k p q ≡ arrival_of r k p q
   arrival_is k p q h =

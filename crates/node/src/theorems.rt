@@ -10,8 +10,8 @@ pub fn good_nodes_stand()
     ensures { Stands }
 {}
 
-/// There are runs as the main theorem asks for, for as many rounds as clocks can show: whatever the faulty nodes send,
-/// and however clocks run and messages travel as far as they may.
+/// And what it asks can be met, for as many rounds as clocks can show: whatever the faulty nodes send and the good ones
+/// give, and with any losses of the clocks and times of the messages within the limits.
 pub fn run_can_be_given()
     ensures { RunCanBeGiven }
 {}
