@@ -26,6 +26,8 @@ pub mod hearing;
 pub mod refusal;
 pub mod sending;
 pub mod state;
+#[cfg(test)]
+mod tests;
 pub mod theorems;
 
 pub use config::Config;
