@@ -86,6 +86,18 @@ module _ (c : Cluster) (good : ℕ → Bool) (heard : ℕ → List (Option ℤ))
       let ((t, gt, over, under), (r, gr, high), (s, gs, low)) = tied p q gp gq in
       omega (arith, ints, is_set_to p gp, is_set_to q gq, apart r s gr gs)
 
+  -- each is set between what good clocks span, but for the error
+  pub set_between : (low high : ℤ) → ((q : ℕ) → GoodNode c good q → (low ≤ℤ lead (before q)) × (lead (before q) ≤ℤ high)) → (p : ℕ) →
+      GoodNode c good p →
+      (low ≤ℤ (ahead (before p) (round.set p).shown +ℤ pos (error_of c))) × (ahead (before p) (round.set p).shown ≤ℤ (high +ℤ pos (error_of c)))
+  set_between low high span p g =
+      let set = is_set_to p g in
+      let ((t, gt, over, under), (r, gr, above), (s, gs, below)) = tied p p g g in
+      let (lt, ht) = span t gt in
+      let (lr, hr) = span r gr in
+      let (ls, hs) = span s gs in
+      (omega (arith, ints), omega (arith, ints))
+
 pub halves : Halves
 halves c good heard before after d few round apart p q gp gq =
     let (up, _) = round.runs p gp in
@@ -125,11 +137,7 @@ comes_together c good heard m k d few rounds start =
 pub stays_between : StaysBetween
 stays_between c good heard before after low high few round span p g =
     let (up, down) = round.runs p g in
-    let set = is_set_to c good heard before after few round p g in
-    let ((t, gt, over, under), (r, gr, above), (s, gs, below)) = tied c good heard before after few round p p g g in
-    let (lt, ht) = span t gt in
-    let (lr, hr) = span r gr in
-    let (ls, hs) = span s gs in
+    let (above, below) = set_between c good heard before after few round low high span p g in
     (omega (arith, ints), omega (arith, ints))
 
 pub counts_together : CountsTogether

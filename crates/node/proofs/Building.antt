@@ -38,17 +38,17 @@ pub record Chosen : Type 0 where
   pub good : ℕ → Bool
   pub rounds : ℕ
   pub made : ℕ → Showing
-  pub losses : ℕ → ℕ → ℕ
+  pub offs : ℕ → ℕ → ℤ
   pub delays : ℕ → ℕ → ℕ → ℕ
   pub lengths : ℕ → ℕ → ℕ → ℕ
   pub value : ℕ → ℕ → ℕ
   pub lies : ℕ → ℕ → ℕ → List (Arrival (List ℕ))
   pub noise : ℕ → ℕ → ℕ → List (Arrival (List ℕ))
   pub few : FewBad s.cluster good
-  pub choice : Choice s good rounds (λ p. moment (made p) 0) losses delays lengths
+  pub choice : Choice s good rounds (λ p. moment (made p) 0) offs delays lengths
   pub fits : (k p : ℕ) → value k p < 2 ^ 32
   pub bytes : HoldBytes lies
-  pub given : bus.RunGiven s good rounds (λ p. moment (made p) 0) losses delays lengths (said s good value lies) lies noise (takes s)
+  pub given : bus.RunGiven s good rounds (λ p. moment (made p) 0) offs delays lengths (said s good value lies) lies noise (takes s)
 
 module _ (x : Chosen) where
   abbrev s : Schedule

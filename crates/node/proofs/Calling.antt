@@ -11,6 +11,7 @@ use Rattle.schedule.specs.Runs as bus
 use Rattle.schedule.specs.Slots.{Timing, slot_of, send_time_of, slot_end_of}
 use Rattle.schedule.specs.declared.limits.Schedule.{Schedule}
 use Rattle.schedule.proofs.Passing.{slot_long, starts_later, behind_round}
+use Rattle.schedule.proofs.Running.{first_in_pause}
 use Rattle.schedule.proofs.Standing.{set_le}
 use Rattle.frame.specs.Layout.{value_count_of, frame_length_of}
 use Rattle.frame.specs.Writing.{FirstFit, with_frame}
@@ -60,7 +61,7 @@ module _ (x : Chosen) where
   sends_then k p h g = ap (λ m. m.shown) (at_own x k p p refl) ∙ x.given.lawful.duties.sending k p h g
 
   starts_by : (k p : ℕ) → k ≤ x.rounds → Good x p → (r.starts k p).clock.shown ≤ send_time_of t (slot_of t k 0)
-  starts_by zero p h g = omega (arith, ap (λ m. m.clock.shown) (x.given.first_start p), x.choice.early p g)
+  starts_by zero p h g = omega (arith, ap (λ m. m.clock.shown) (x.given.first_start p), first_in_pause x.choice p g)
   starts_by (suc k) p h g =
       omega (arith, set_le s x.good x.rounds r x.few x.given.lawful.world x.given.lawful.duties k p h g, behind_round s k 0)
 

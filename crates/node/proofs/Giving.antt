@@ -5,7 +5,7 @@ use Rattle.clock.specs.declared.limits.Cluster.{Cluster}
 use Rattle.schedule.specs.Runs.{TakesTheGood}
 use Rattle.schedule.specs.Runs as bus
 use Rattle.schedule.specs.declared.limits.Schedule.{Schedule}
-use Rattle.schedule.proofs.Running.{run_can_be_given_lem as run_on_the_bus}
+use Rattle.schedule.proofs.Running.{first_in_pause, run_can_be_given_lem as run_on_the_bus}
 use Rattle.frame.specs.Layout.{frame_length_of}
 use Rattle.relay.specs.Tables.{table_length_of}
 use Rattle.relay.specs.Theorems.{turn_in}
@@ -63,7 +63,7 @@ module _ (x : Chosen) where
   started = record {
     begins = λ p g. record {
       time = (r.starts 0 p).clock.shown;
-      early = omega (arith, ap (λ m. m.clock.shown) (x.given.first_start p), x.choice.early p g, due_behind s 0 p 0);
+      early = omega (arith, ap (λ m. m.clock.shown) (x.given.first_start p), first_in_pause x.choice p g, due_behind s 0 p 0);
       old = zeros (table_length_of c);
       made = record {
         made = record {
@@ -85,13 +85,13 @@ module _ (x : Chosen) where
   }
 
   -- so it is a run as it was to be given
-  is_given : RunGiven s x.good x.rounds x.made x.losses x.delays x.lengths x.value x.lies x.noise
+  is_given : RunGiven s x.good x.rounds x.made x.offs x.delays x.lengths x.value x.lies x.noise
   is_given = record {
     run = run;
     lawful = lawful;
     started = started;
     made_then = λ p g. ap (λ m. moment (showing m) 0) (x.given.first_start p);
-    lost = λ k p h g. let own = at_own x k p p refl in rw own (x.given.lost k p h g);
+    ran = λ k p h g. let own = at_own x k p p refl in rw own (x.given.ran x.few k p h g);
     delayed = λ k p q h gp gq d. x.given.delayed k p q ∙ ap (λ m. m.common + x.delays k p q) (sym (at_own x k q q refl));
     lasted = λ k p q h gp gq d. x.given.lasted k p q;
     gives = λ k p. refl;
@@ -103,7 +103,7 @@ module _ (x : Chosen) where
 
 -- There is such a run on the bus, since the good nodes' frames are taken; so there is one of the nodes.
 pub can_be_given : RunCanBeGiven
-can_be_given s good rounds made losses delays lengths value lies noise few choice fits bytes other_wires =
+can_be_given s good rounds made offs delays lengths value lies noise few choice fits bytes other_wires =
     let takes_good : TakesTheGood s good rounds (said s good value lies) (takes s) =
     λ k p q h gp gq d. ap is_none (said_taken s good value lies fits bytes k q) in
     is_given (record {
@@ -111,7 +111,7 @@ can_be_given s good rounds made losses delays lengths value lies noise few choic
       good = good;
       rounds = rounds;
       made = made;
-      losses = losses;
+      offs = offs;
       delays = delays;
       lengths = lengths;
       value = value;
@@ -121,5 +121,5 @@ can_be_given s good rounds made losses delays lengths value lies noise few choic
       choice = choice;
       fits = fits;
       bytes = bytes;
-      given = run_on_the_bus s good rounds (λ p. moment (made p) 0) losses delays lengths (said s good value lies) lies noise (takes s) choice other_wires takes_good;
+      given = run_on_the_bus s good rounds (λ p. moment (made p) 0) offs delays lengths (said s good value lies) lies noise (takes s) choice other_wires takes_good;
     })

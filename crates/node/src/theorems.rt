@@ -11,7 +11,7 @@ pub fn good_nodes_stand()
 {}
 
 /// And what it asks can be met, for as many rounds as clocks can show: whatever the faulty nodes send and the good ones
-/// give, and with any losses of the clocks and times of the messages within the limits.
+/// give, and with any drift of the clocks, either way, and any times of the messages within the limits.
 pub fn run_can_be_given()
     ensures { RunCanBeGiven }
 {}

@@ -11,10 +11,10 @@ use Rattle.midpoint.specs.declared.refusal.Code.{Code}
 use Rattle.midpoint.proofs.Sorting.{count_none}
 use Rattle.clock.specs.Config.{bound_of, width_of}
 use Rattle.clock.specs.Deviation.{deviation_of, moved}
-use Rattle.clock.specs.Rounds.{Moment, lead, GoodNode, FewBad, Apart, Round}
+use Rattle.clock.specs.Rounds.{Moment, ahead, lead, GoodNode, FewBad, Apart, Round}
 use Rattle.clock.specs.Setting.{read_of, reads, readings, unless, settled}
 use Rattle.clock.proofs.Nodes.{midpoint_within}
-use Rattle.clock.proofs.Rounds.{stays_between}
+use Rattle.clock.proofs.Rounds.{set_between}
 use Rattle.schedule.specs.Config.{timing_of}
 use Rattle.schedule.specs.Messages.{Instant, instant, AheadBy, Sends, Course, FromSlot}
 use Rattle.schedule.specs.Slots.{Timing, owner_of, round_of, slot_of, slot_start, slot_end_of, round_end_of}
@@ -118,16 +118,25 @@ settles_no_farther s round own p heard from =
     let xs = map (reads p own heard) (range_with_len 0 s.cluster.nodes) in
     leaves_no_more (first_applying (unusable s.cluster.faults xs)) (midpoint s.cluster.faults xs) own (own + s.pause) high (omega arith)
 
--- a good clock is set to no more than width, error and drift ahead of any good clock before it was set
+-- a good clock is set to no more than width and error ahead of any good clock before it was set, so of the pause the drift is left
+pub set_ahead : (s : Schedule) (good : ℕ → Bool) (heard : ℕ → List (Option ℤ)) (before after : ℕ → Moment) (p q : ℕ) → FewBad s.cluster good →
+    (round : Round s.cluster good heard before after) → Apart s.cluster good (width_of s.cluster) before → GoodNode s.cluster good p →
+    GoodNode s.cluster good q → (ahead (before p) (round.set p).shown +ℤ pos s.cluster.drift) ≤ℤ (lead (before q) +ℤ pos s.pause)
+set_ahead s good heard before after p q few round apart gp gq =
+    let w = width_of s.cluster in
+    let (_, high) =
+    set_between s.cluster good heard before after few round (lead (before q) -ℤ pos w) (lead (before q) +ℤ pos w)
+    (λ r gr. let up = apart r q gr gq in let down = apart q r gq gr in (omega (arith, ints), omega (arith, ints))) p gp in
+    omega (arith, ints, s.before)
+
+-- and in the round that follows it is no more than a pause ahead of it
 not_far_ahead : (s : Schedule) (good : ℕ → Bool) (heard : ℕ → List (Option ℤ)) (before after : ℕ → Moment) (p q : ℕ) → FewBad s.cluster good →
     Round s.cluster good heard before after → Apart s.cluster good (width_of s.cluster) before → GoodNode s.cluster good p →
     GoodNode s.cluster good q → lead (after p) ≤ℤ (lead (before q) +ℤ pos s.pause)
 not_far_ahead s good heard before after p q few round apart gp gq =
-    let w = width_of s.cluster in
-    let (_, high) =
-    stays_between s.cluster good heard before after (lead (before q) -ℤ pos w) (lead (before q) +ℤ pos w) few round
-    (λ r gr. let up = apart r q gr gq in let down = apart q r gq gr in (omega (arith, ints), omega (arith, ints))) p gp in
-    omega (arith, ints, s.before)
+    let set = set_ahead s good heard before after p q few round apart gp gq in
+    let (runs, _) = round.runs p gp in
+    omega (arith, ints)
 
 -- a slot of a later round starts when the round has ended, or later
 starts_behind : (t : Timing) (round slot : ℕ) → round < round_of t slot → round_end_of t round ≤ slot_start t slot

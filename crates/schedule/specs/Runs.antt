@@ -1,6 +1,6 @@
 -- A run of good nodes over any number of rounds, whatever the faulty ones do: clocks that are set, messages that pass, and what was heard of them.
 -- What holds of it, and that there are such runs, are statements that contracts of functions of src/theorems.rt demand. Assumes nothing.
-use Rattle.std.specs.Prelude.{◌≡◌, ℕ, suc, ◌+◌, ◌<◌, ◌≤◌, Bool, true, false, cond, List, ◌∷◌, ◌++◌, ℤ, pos, ◌+ℤ◌, ◌≤ℤ◌, Some, None, Option, ◌≢◌, ◌⊎◌, slice_index_or}
+use Rattle.std.specs.Prelude.{◌≡◌, ℕ, suc, ◌+◌, ◌<◌, ◌≤◌, Bool, true, false, cond, List, ◌∷◌, ◌++◌, ℤ, pos, ◌+ℤ◌, ◌≤ℤ◌, Some, None, Option, ◌≢◌, ◌⊎◌, slice_index_or, unsigned_abs}
 use Rattle.std.specs.List.{AllByRecursion}
 use Rattle.std.specs.Option.{option_map}
 use Rattle.midpoint.specs.Setting.{clock_limit}
@@ -182,18 +182,20 @@ Stands M =
     (s : Schedule) (good : ℕ → Bool) (rounds : ℕ) (r : Run M) → FewBad s.cluster good → Lawful s good rounds r → Started s good r →
     Standing s good rounds r
 
--- There are such runs, over as many rounds as clocks can show. This may be chosen of them: the good clocks as the first round begins, how much each
--- has lost in a round when its node sends, how long each message is on its way and lasts, what the messages hold, all that a listener for a faulty
--- node's slot is told of (any messages, on any wires and at any times), all that one for a good node's slot is told of behind that node's message
--- (any, on other wires and at any times), and, by what a message holds that a listener answers, whether the node takes it or turns it away (any, but for
--- what a good node says in a round: that is taken in it by the other good ones).
+-- There are such runs, over as many rounds as clocks can show. This may be chosen of them: the good clocks as the first round begins, how far each
+-- has run off in a round when its node sends, either way, how long each message is on its way and lasts, what the messages hold, all that a listener
+-- for a faulty node's slot is told of (any messages, on any wires and at any times), all that one for a good node's slot is told of behind that node's
+-- message (any, on other wires and at any times), and, by what a message holds that a listener answers, whether the node takes it or turns it away
+-- (any, but for what a good node says in a round: that is taken in it by the other good ones).
 pub record Choice
-    (s : Schedule) (good : ℕ → Bool) (rounds : ℕ) (first : ℕ → Moment) (losses : ℕ → ℕ → ℕ) (delays lengths : ℕ → ℕ → ℕ → ℕ) : Type 0 where
-  -- the clocks are within the bound and in round 0, and show so little that none misses the first message
+    (s : Schedule) (good : ℕ → Bool) (rounds : ℕ) (first : ℕ → Moment) (offs : ℕ → ℕ → ℤ) (delays lengths : ℕ → ℕ → ℕ → ℕ) : Type 0 where
+  -- the clocks are within the bound and in round 0, and show so little that none misses a message of that round, however far its sender has run off
   pub near : Apart s.cluster good (bound_of s.cluster) first
   pub from_zero : (p : ℕ) → GoodNode s.cluster good p → (first p).clock.round ≡ 0
-  pub early : (p : ℕ) → GoodNode s.cluster good p → (first p).clock.shown + bound_of s.cluster ≤ s.pause
-  pub steady : (k p : ℕ) → losses k p ≤ s.cluster.drift
+  pub early :
+      (p q : ℕ) → GoodNode s.cluster good p → GoodNode s.cluster good q →
+      (pos ((first p).clock.shown + bound_of s.cluster) +ℤ offs 0 q) ≤ℤ pos s.pause
+  pub steady : (k p : ℕ) → unsigned_abs (offs k p) ≤ s.cluster.drift
   pub on_time : (k p q : ℕ) → (delays k p q ≤ s.wire) × (delays k p q ≤ s.cluster.jitter)
   -- each lasts a tick at least, so that the schedule has to allow for one
   pub lasting : (k p q : ℕ) → (1 ≤ lengths k p q) × (lengths k p q ≤ s.message)
@@ -215,20 +217,21 @@ taken_by takes None = None
 taken_by takes (Some received) = cond (takes received.message) (Some received) None
 
 pub record RunGiven {M : Type 0}
-    (s : Schedule) (good : ℕ → Bool) (rounds : ℕ) (first : ℕ → Moment) (losses : ℕ → ℕ → ℕ) (delays lengths : ℕ → ℕ → ℕ → ℕ)
+    (s : Schedule) (good : ℕ → Bool) (rounds : ℕ) (first : ℕ → Moment) (offs : ℕ → ℕ → ℤ) (delays lengths : ℕ → ℕ → ℕ → ℕ)
     (said : ℕ → ℕ → M) (lies noise : ℕ → ℕ → ℕ → List (Arrival M)) (takes : ℕ → ℕ → ℕ → M → Bool) : Type 0 where
   pub run : Run M
   pub lawful : Lawful s good rounds run
   pub started : Started s good run
   pub first_start : (p : ℕ) → run.starts 0 p ≡ first p
-  pub lost :
-      (k p : ℕ) → k ≤ rounds → GoodNode s.cluster good p → lead (run.sends k p) +ℤ pos (losses k p) ≡ lead (run.starts k p)
+  -- so far each clock has run off when its node sends, where few are bad: else what is heard may set it to the very time to send
+  pub ran :
+      FewBad s.cluster good → (k p : ℕ) → k ≤ rounds → GoodNode s.cluster good p → lead (run.sends k p) ≡ lead (run.starts k p) +ℤ offs k p
   -- whether a moment is one of a round is told by its time and by what the clock shows, whatever round that counts
   pub by_showing :
       (k p : ℕ) (a b : Moment) → a.common ≡ b.common → a.clock.shown ≡ b.clock.shown → run.of_round k p a ≡ run.of_round k p b
-  -- in a round no clock runs backwards
+  -- in a round no clock runs backwards; at one common time one that gains shows several numbers
   pub forward :
-      (k p : ℕ) (a b : Moment) → run.of_round k p a ≡ true → run.of_round k p b ≡ true → a.common ≤ b.common → a.clock.shown ≤ b.clock.shown
+      (k p : ℕ) (a b : Moment) → run.of_round k p a ≡ true → run.of_round k p b ≡ true → a.common < b.common → a.clock.shown ≤ b.clock.shown
   pub delayed : (k p q : ℕ) → (run.begins k p q).common ≡ (run.sends k q).common + delays k p q
   pub lasted : (k p q : ℕ) → (run.over k p q).common ≡ (run.begins k p q).common + lengths k p q
   pub says : (k q : ℕ) → run.said k q ≡ said k q
@@ -245,7 +248,7 @@ pub record RunGiven {M : Type 0}
 
 abbrev pub RunCanBeGiven : Type 0 → Type 0
 RunCanBeGiven M =
-    (s : Schedule) (good : ℕ → Bool) (rounds : ℕ) (first : ℕ → Moment) (losses : ℕ → ℕ → ℕ) (delays lengths : ℕ → ℕ → ℕ → ℕ)
+    (s : Schedule) (good : ℕ → Bool) (rounds : ℕ) (first : ℕ → Moment) (offs : ℕ → ℕ → ℤ) (delays lengths : ℕ → ℕ → ℕ → ℕ)
     (said : ℕ → ℕ → M) (lies noise : ℕ → ℕ → ℕ → List (Arrival M)) (takes : ℕ → ℕ → ℕ → M → Bool) →
-    Choice s good rounds first losses delays lengths → OnOtherWires noise → TakesTheGood s good rounds said takes →
-    RunGiven s good rounds first losses delays lengths said lies noise takes
+    Choice s good rounds first offs delays lengths → OnOtherWires noise → TakesTheGood s good rounds said takes →
+    RunGiven s good rounds first offs delays lengths said lies noise takes

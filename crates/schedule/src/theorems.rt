@@ -120,9 +120,9 @@ pub fn round_can_be_heard()
 {}
 
 /// There is a run of good nodes as `good_nodes_stand_together` asks for it: over as many rounds as clocks can
-/// show, with clocks that start apart and lose time, messages that are delayed and hold anything, listeners
-/// that are told of anything in the slots of faulty nodes, and of anything on other wires in those of good
-/// ones, and nodes that turn away anything but what good ones say in a round.
+/// show, with clocks that start apart and run off either way, messages that are delayed and hold anything,
+/// listeners that are told of anything in the slots of faulty nodes, and of anything on other wires in those of
+/// good ones, and nodes that turn away anything but what good ones say in a round.
 pub fn run_can_be_given<M: Copy>()
     ensures { RunCanBeGiven M }
 {}
