@@ -22,10 +22,10 @@ use Rattle.schedule.proofs.Answered.{none_or_from_slot}
 use Rattle.schedule.proofs.Passing.{set_ahead, settles_no_farther, rises, in_round, behind_round}
 use Rattle.schedule.proofs.Standing.{stands}
 
--- a clock of a round at a common time, when it shows a time
 pub below_limit : (time : ℕ) → min time (clock_limit - 1) < clock_limit
 below_limit time = grind arith
 
+-- a round's clock as it shows a time at a common time
 abbrev showing : Moment → ℕ → ℕ → Moment
 showing m x time = record {
   common = x;
@@ -83,7 +83,7 @@ run_off (negsuc loss) = omega arith
 -- with all that it gains in the first round, no clock shows more than the pause at first
 pub first_in_pause : {s : Schedule} {good : ℕ → Bool} {rounds : ℕ} {first : ℕ → Moment} {offs : ℕ → ℕ → ℤ} {delays lengths : ℕ → ℕ → ℕ → ℕ} →
     Choice s good rounds first offs delays lengths → (p : ℕ) → GoodNode s.cluster good p → (first p).clock.shown + up (offs 0 p) ≤ s.pause
-first_in_pause {s} {good} {rounds} {first} {offs} choice p g =
+first_in_pause {s} {offs = offs} choice p g =
     let early = choice.early p p g g in omega (arith, ints, choice.steady 0 p, run_off (offs 0 p))
 
 -- what is heard of an answer is nothing, or the answer
@@ -343,7 +343,7 @@ module _ {M : Type 0} (s : Schedule) (good : ℕ → Bool) (rounds : ℕ) (first
       near = choice.near;
       first = choice.from_zero;
       listens = λ p q gp gq d.
-          let behind = choice.near q p gq gp in let few = choice.early p q gp gq in omega (arith, ints);
+          let near = choice.near q p gq gp in let in_time = choice.early p q gp gq in omega (arith, ints);
     }
 
     -- Where few are bad, a clock has gained what it gains when its node is to send: it is set to no less than that before.
