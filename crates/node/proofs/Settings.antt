@@ -6,12 +6,12 @@ use Rattle.clock.proofs.Rounds.{halves, stays_between}
 use Rattle.schedule.specs.declared.limits.Schedule.{Schedule}
 use Rattle.relay.specs.Tables.{table_length_of}
 use Rattle.node.specs.Ending.{EndedBy}
-use Rattle.node.specs.Settings.{Over, heard_by, Setting, SetsCloser, SetsBetween}
+use Rattle.node.specs.Settings.{EndedAt, heard_by, RoundSet, SetsCloser, SetsBetween}
 use Rattle.node.specs.declared.state.Node.{Node}
 use Rattle.node.proofs.Accepted.{Timely, ending_taken}
 
 -- the call that ends a round is not turned away, so the round ends
-has_ended : (s : Schedule) (before : Node) (m : Moment) (after : Node) (over : Over s before m.clock.shown after) → before.schedule ≡ s →
+has_ended : (s : Schedule) (before : Node) (m : Moment) (after : Node) (over : EndedAt s before m.clock.shown after) → before.schedule ≡ s →
     EndedBy before m.clock.shown over.value over.first over.second after over.first_after over.second_after
 has_ended s before m after over config =
     let long = ap (λ (t : Schedule). table_length_of t.cluster) (sym config) in
@@ -27,7 +27,7 @@ has_ended s before m after over config =
 abbrev in_round : Moment → ℕ → Moment
 in_round m round = record { common = m.common; clock = record { shown = m.clock.shown; round = round; below = m.clock.below } }
 
-module _ (s : Schedule) (good : ℕ → Bool) (before after : ℕ → Node) (ends next : ℕ → Moment) (setting : Setting s good before after ends next) where
+module _ (s : Schedule) (good : ℕ → Bool) (before after : ℕ → Node) (ends next : ℕ → Moment) (setting : RoundSet s good before after ends next) where
   -- It is a round of the clocks, where each counts what its node counts.
   abbrev its_ends : ℕ → Moment
   its_ends p = in_round (ends p) (before p).clock.round
@@ -38,7 +38,7 @@ module _ (s : Schedule) (good : ℕ → Bool) (before after : ℕ → Node) (end
   round : Round s.cluster good (heard_by before) its_ends its_next
   round = record {
     fair = setting.fair;
-    taken = setting.taken;
+    taken = setting.readable;
     set = λ p. (after p).clock;
     sets = λ p of_p.
         let ended = (has_ended s (before p) (ends p) (after p) (setting.over p of_p) (setting.config p of_p)).ended in

@@ -14,7 +14,7 @@ use Rattle.node.specs.declared.state.Node.{Node}
 use Rattle.node.specs.declared.refusal.Refusal.{Refusal}
 use Rattle.node.specs.declared.refusal.Refusal.TheVariants.{Time, Frame, Table, OutOfTurn}
 
--- the local time is one that no clock comes to, at the own number; or earlier than the last one
+-- The two rows of the time: it is one that no clock comes to, at the own number; it is earlier than the last one.
 abbrev pub past_limit : ℕ → ℕ → Row Refusal
 past_limit own time = refused_if (not (shown time)) (Time (PastLimit own))
 
@@ -47,7 +47,7 @@ unheard_in node sender first second =
 abbrev pub unheard : Node → ℕ → ℕ → List ℕ → List ℕ → List (Row Refusal)
 unheard node time sender first second = around node time (unheard_in node sender first second)
 
--- Why a round is not over for it: a table.
+-- Why the end of a round is turned away: a table.
 abbrev pub unended : Node → ℕ → List ℕ → List ℕ → List (Row Refusal)
 unended node time first second = around node time (unfit_tables node first second)
 

@@ -11,8 +11,8 @@ use Rattle.node.specs.Nodes.{turn_of, read_in, written_in}
 use Rattle.node.specs.Calls.{unheard, Passed, NothingDone, Leaves}
 use Rattle.node.specs.declared.state.Node.{Node}
 
--- Of what a listener heard in a turn, what is taken: a frame that no check turns away. Else it is as if nothing had come. This is what a call promises; of the
--- event, which says the same case by case, it follows.
+-- Of what a listener heard in a turn, what is taken: a frame that no check turns away. Else it is as if nothing had come. The contract of `slot_over` says by this what
+-- the node keeps, and by `Becomes` which event it answers; the two agree.
 abbrev pub taken : Turn → Option (Received (List ℕ)) → Option (Received (List ℕ))
 taken t None = None
 taken t (Some received) = cond (is_none (first_applying (untaken t received.message))) (Some received) None

@@ -34,8 +34,8 @@ pub record Showing : Type 0 where
   pub shown : ℕ
   pub below : shown < clock_limit
 
--- What happens to good nodes. A table or memory that stands behind one call and before the next is the same: nobody else writes to it. What a node's clock
--- shows as a round begins is what the node has it set to.
+-- What happens to good nodes. What a call leaves in the tables is what the next one finds, since nobody else writes to them; the memory for a frame may be other
+-- memory in each round. What a node's clock shows as a round begins is what the node has it set to.
 pub record Run : Type 0 where
   -- round, node, how many calls its driver has made in the round: the node, and the two tables that are lent to it
   pub node : ℕ → ℕ → ℕ → Node
@@ -47,7 +47,7 @@ pub record Run : Type 0 where
   pub memory : ℕ → ℕ → List ℕ
   pub filled : ℕ → ℕ → List ℕ
   pub value : ℕ → ℕ → ℕ
-  -- round, node: when the round begins for it, by common time; and whether its clock shows something in it
+  -- round, node: the common time at which the round begins for it; and which showings are of its clock in this round
   pub starts : ℕ → ℕ → ℕ
   pub of_round : ℕ → ℕ → Showing → Bool
   -- round, receiver, sender: the receiver's clock as the sender's message of the round begins to arrive, and as it has ended
@@ -61,8 +61,8 @@ pub record Run : Type 0 where
 abbrev pub sent : Run → ℕ → ℕ → List ℕ
 sent r k p = let node = r.node k p p in take (frame_length_of (turn_of node node.own)) (r.filled k p)
 
--- The same run as the schedule speaks of it: by the clocks and the messages. A node sends with its call number p, as many slots before its own are over then, and
--- ends a round with the call behind those for all slots: that these calls do so is shown. All are sent the same.
+-- The same run as the schedule speaks of it: by the clocks and the messages. Node p sends with call number p of a round, counted from 0: the slots of nodes 0 to p - 1
+-- are over before. The call behind those for all slots ends the round. That these calls are the ones that are due is shown. A node's frame is the same on all its wires.
 abbrev pub showing : Moment → Showing
 showing m = record { common = m.common; shown = m.clock.shown; below = m.clock.below }
 
@@ -102,8 +102,8 @@ Does s r k p calls time RoundOver =
     Ends (r.node k p calls) time (r.value (suc k) p) (r.first k p calls) (r.second k p calls) (r.node (suc k) p 0) (r.first (suc k) p 0)
     (r.second (suc k) p 0)
 
--- When a call is made that is due at a time, and where the next one is due at another: to send and to end a round just then; and that a slot is over then or later, but no
--- later than the next call is due.
+-- Whether a call is made in time, where it is due at `due`, and the one behind it at `next`: sending and the end of a round at just that time; the end of a slot at that
+-- time or later, but no later than `next`.
 abbrev pub MadeAt : Call → ℕ → ℕ → ℕ → Type 0
 MadeAt Send due next shown = shown ≡ due
 MadeAt (SlotOver q) due next shown = (due ≤ shown) × (shown ≤ next)
@@ -115,9 +115,9 @@ pub record Called (s : Schedule) (r : Run) (k p calls : ℕ) : Type 0 where
       MadeAt (due_of (r.node k p calls)).call (due_of (r.node k p calls)).time (due_of (r.node k p (suc calls))).time (r.at k p calls).shown
   pub does : Does s r k p calls (r.at k p calls).shown (due_of (r.node k p calls)).call
 
--- What is asked of a run over so many rounds, and of the next one as far as it goes: up to the call with which a node sends, so that its message is in the run too, which could
--- come early. Nothing is asked of the faulty nodes, nor of what arrives from them. It is not asked that a call is taken, that a message is heard, or that a frame is not
--- turned away.
+-- What is asked of so many rounds, and of the one behind them up to the call with which each node sends: a message of that round might come too early, so it has to be in
+-- the run. Nothing is asked of the faulty nodes, nor of what arrives from them. It is not asked that a call is taken, that a message is heard, or that a frame is not turned
+-- away.
 pub record Lawful (s : Schedule) (good : ℕ → Bool) (rounds : ℕ) (r : Run) : Type 0 where
   -- clocks run off by no more than the drift in a round, messages between good nodes are carried in time, and their wires carry nothing else
   pub world : World s good rounds (on_bus s r)
@@ -143,7 +143,7 @@ pub record Begins (s : Schedule) (r : Run) (p : ℕ) : Type 0 where
   pub first_fits : length old ≡ table_length_of s.cluster
   pub second_fits : length (r.second 0 p 0) ≡ table_length_of s.cluster
 
--- How it starts: good nodes are made when their clocks are within the bound, and each before the first message of another good node begins to arrive.
+-- How it starts: good nodes are made when their clocks are within the bound, and each no later than the first message of another good node begins to arrive.
 pub record Started (s : Schedule) (good : ℕ → Bool) (r : Run) : Type 0 where
   pub begins : (p : ℕ) → GoodNode s.cluster good p → Begins s r p
   pub near : Apart s.cluster good (bound_of s.cluster) ((on_bus s r).starts 0)
@@ -161,15 +161,15 @@ pub record Comes (s : Schedule) (r : Run) (k p q : ℕ) : Type 0 where
   pub due : due_of (r.node k p q) ≡ slot_due s k p q
   pub in_time : (r.node k p q).clock.shown ≤ (slot_due s k p q).time
 
--- A cycle that is over: any two good nodes have the same results, and for a good node that is the value that it gave.
-pub record Agreed (s : Schedule) (good : ℕ → Bool) (r : Run) (first : ℕ) : Type 0 where
+-- A cycle that is over, by the round with which it began: any two good nodes have the same results, and for a good node that is the value that it gave.
+pub record Agreed (s : Schedule) (good : ℕ → Bool) (r : Run) (round : ℕ) : Type 0 where
   pub same :
       (p q : ℕ) → GoodNode s.cluster good p → GoodNode s.cluster good q →
-      results_in (r.node (first + s.cluster.faults + 1) p 0) ≡ results_in (r.node (first + s.cluster.faults + 1) q 0)
+      results_in (r.node (round + s.cluster.faults + 1) p 0) ≡ results_in (r.node (round + s.cluster.faults + 1) q 0)
   pub right :
       (p : ℕ) → GoodNode s.cluster good p →
-      (results : List ℕ) × (results_in (r.node (first + s.cluster.faults + 1) p 0) ≡ Some results) × (length results ≡ s.cluster.nodes)
-      × ((q : ℕ) → GoodNode s.cluster good q → slice_index results q ≡ r.value first q)
+      (results : List ℕ) × (results_in (r.node (round + s.cluster.faults + 1) p 0) ≡ Some results) × (length results ≡ s.cluster.nodes)
+      × ((q : ℕ) → GoodNode s.cluster good q → slice_index results q ≡ r.value round q)
 
 -- What holds then.
 pub record Standing (s : Schedule) (good : ℕ → Bool) (rounds : ℕ) (r : Run) : Type 0 where
@@ -188,7 +188,7 @@ pub record Standing (s : Schedule) (good : ℕ → Bool) (rounds : ℕ) (r : Run
       (k p q : ℕ) → k < rounds → GoodNode s.cluster good p → GoodNode s.cluster good q →
       Entered (turn_in s.cluster k q) (told_from (turn_in s.cluster k q) (reads r k q)) (writes r k p q) (writes r k p (suc q))
   -- At the end of each cycle they agree.
-  pub agreed : (first : ℕ) → place_in_cycle s.cluster first ≡ 0 → first + s.cluster.faults < rounds → Agreed s good r first
+  pub agreed : (round : ℕ) → place_in_cycle s.cluster round ≡ 0 → round + s.cluster.faults < rounds → Agreed s good r round
 
 -- The main theorem: so it holds of any run, for any schedule, any choice of faulty nodes that are no more than the cluster allows, and any number of rounds.
 abbrev pub Stands : Type 0

@@ -11,8 +11,8 @@ use midpoint::MAX_NODES;
 use relay::fitting_table;
 
 impl Node {
-    // The clock at a local time, where the call is not turned away: by the limit first, then for what it is lent or told of, and
-    // last since the time is earlier than the last one.
+    // The clock at a local time, where the call is not turned away: first by the limit, then by what it is lent or told of, and
+    // last by a time that is earlier than the last one.
     pub(crate) fn at(self, time: u64, others: Result<(), Refusal>) -> Result<Clock, Refusal>
         ensures { ByRows (around self time (as_rows others)) (λ e. e) (At self time) result }
     {

@@ -13,9 +13,9 @@ use schedule::Received;
 /// What came in another node's slot.
 #[derive(Clone, Copy, PartialEq, Eq, Debug)]
 pub enum Event<'a> {
-    /// Nothing that was heard: nothing came whole in the slot, or several messages did.
+    /// Nothing was heard: no message came whole in the slot, or several did.
     Nothing,
-    /// A frame, which is heard whole or turned away; the node then goes on as if nothing had come.
+    /// A frame, heard whole or turned away. Where it is turned away, the node goes on as if nothing had come.
     Frame(Reception<'a>),
 }
 

@@ -17,8 +17,8 @@ use schedule::Schedule;
 /// reads the first and writes the second, and in an odd one it reads the second and writes the first. Nobody else writes to them,
 /// and a node cannot see if they are handed over in the other order.
 ///
-/// `due` says which call comes next and when. No call asks whether its time has come: it takes any local time that is not earlier
-/// than the last, and does what it does.
+/// `due` says which call comes next and when. No call asks whether its time has come: it takes any local time below 10^12 that
+/// is not earlier than the last, and does what it does.
 #[derive(Clone, Copy, PartialEq, Eq, Debug)]
 pub struct Node {
     pub(crate) schedule: Schedule,
