@@ -1,7 +1,8 @@
 -- A node for which a round is over. Assumes nothing: these are definitions.
-use Rattle.std.specs.Prelude.{◌≡◌, ℕ, Bool, false, cond, not, List, [], None, Some, Option, Ok, Err, replicate, filter, ◌==◌}
+use Rattle.std.specs.Prelude.{◌≡◌, ℕ, Bool, false, cond, not, List, [], None, Some, Option, Ok, Err, Result, replicate, filter, ◌==◌}
 use Rattle.std.specs.List.{range_with_len}
 use Rattle.midpoint.specs.Setting.{SetSays, most_readings}
+use Rattle.midpoint.specs.declared.refusal.Refusal.{Refusal}
 use Rattle.clock.specs.Setting.{settled, readings, next_round_of}
 use Rattle.frame.specs.Layout.{place_in_cycle}
 use Rattle.frame.specs.Writing.{written_over}
@@ -16,10 +17,14 @@ use Rattle.node.specs.declared.state.Node.{Node}
 use Rattle.node.specs.declared.ending.Setting.{Setting}
 use Rattle.node.specs.declared.ending.Setting.TheVariants.{SetTo, Kept}
 
--- What became of the clock: it is set to the midpoint of the readings, or kept, where these are turned away.
-abbrev pub SettingSays : ℕ → List ℕ → Setting → Type 0
-SettingSays faults all (SetTo time) = SetSays faults all (Ok time)
-SettingSays faults all (Kept refusal) = SetSays faults all (Err refusal)
+-- What becomes of a node's clock at a time: it is set to the midpoint of what the node reads of all nodes, or kept, where these readings are turned away.
+abbrev pub answer_of : Setting → Result ℕ Refusal
+answer_of (SetTo time) = Ok time
+answer_of (Kept refusal) = Err refusal
+
+abbrev pub IsSet : Node → ℕ → Setting → Type 0
+IsSet node time setting =
+    SetSays node.schedule.cluster.faults (readings node.schedule.cluster.nodes node.own time node.heard) (answer_of setting)
 
 -- and what it then shows
 abbrev pub shown_by : ℕ → Setting → ℕ

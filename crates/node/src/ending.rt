@@ -2,12 +2,11 @@
 ghost use Rattle.std.specs.Prelude.{◌≡◌, ◌<◌, length, IfOk};
 ghost use Rattle.std.specs.Result.{MatchResult};
 ghost use Rattle.midpoint.specs.Refusals.{ByRows};
-ghost use Rattle.clock.specs.Setting.{readings};
 ghost use Rattle.relay.specs.Tables.{table_length_of};
 ghost use Rattle.relay.specs.Telling.{Entered};
 ghost use Rattle.node.specs.Nodes.{turn_of};
 ghost use Rattle.node.specs.Calls.{unended};
-ghost use Rattle.node.specs.Ending.{Ends, Ended, Completed, SettingSays, shown_by, is_last, results_after, value_missed};
+ghost use Rattle.node.specs.Ending.{Ends, Ended, Completed, IsSet, shown_by, is_last, results_after, value_missed};
 
 use crate::refusal::Refusal;
 use crate::state::{Node, Step};
@@ -39,7 +38,7 @@ impl Node {
         first: &mut [u32],
         second: &mut [u32],
     ) -> Step<Result<Setting, Refusal>>
-        ensures answer { ByRows (unended self time first.old second.old) (λ e. e) (SettingSays self.schedule.cluster.faults (readings self.schedule.cluster.nodes self.own time self.heard)) result.answer }
+        ensures answer { ByRows (unended self time first.old second.old) (λ e. e) (IsSet self time) result.answer }
         ensures shows { IfOk result.answer (λ setting. result.node.clock.shown ≡ shown_by time setting) }
         ensures leaves { Ends self time value first.old second.old result.node first.new second.new }
     {
@@ -59,7 +58,7 @@ impl Node {
         read: &[u32],
         written: &mut [u32],
     ) -> Result<Step<Setting>, Refusal>
-        ensures answer { ByRows (unended self time read.now written.old) (λ e. e) (λ step. SettingSays self.schedule.cluster.faults (readings self.schedule.cluster.nodes self.own time self.heard) step.answer) result }
+        ensures answer { ByRows (unended self time read.now written.old) (λ e. e) (λ step. IsSet self time step.answer) result }
         ensures shows { IfOk result (λ step. step.node.clock.shown ≡ shown_by time step.answer) }
         ensures leaves { MatchResult result (λ step. Ended self time value read.now written.old step.node written.new) (λ _. written.new ≡ written.old) }
     {
