@@ -1,7 +1,8 @@
 -- A run of good nodes, round by round: no call is turned away, so it is a run on the bus as the schedule speaks of it, and the tables are those of a cycle. Assumes
 -- nothing.
+use borrow.Author.Differences.{ints}
 use Rattle.std.proofs.Common.{◌≡◌, ℕ, ℤ, zero, suc, ◌<◌, ◌≤◌, Bool, List, length, get_or, take, slice_index, Some, None, Option, refl, sym, ap, subst, ◌∙◌, inl, inr, arith}
-use Rattle.std.proofs.lemmas.Bool.{cases_eq, cases_lt, eq-eqb, ne_eqb, lt-ltb}
+use Rattle.std.proofs.lemmas.Bool.{cases_eq, cases_lt, eq-eqb, ne_eqb, lt-ltb, le-ltb}
 use Rattle.std.proofs.lemmas.Bool.Decides.{nat_tests}
 use Rattle.std.proofs.lemmas.List.{length-set, length-replicate}
 use Rattle.midpoint.specs.Refusals.{first_applying}
@@ -10,7 +11,7 @@ use Rattle.clock.specs.Setting.{next_round_of}
 use Rattle.schedule.specs.Config.{timing_of}
 use Rattle.schedule.specs.Runs.{Duties, answered}
 use Rattle.schedule.specs.Runs as bus
-use Rattle.schedule.specs.Slots.{slot_of, send_time_of}
+use Rattle.schedule.specs.Slots.{slot_of, send_time_of, round_end_of}
 use Rattle.schedule.specs.declared.limits.Schedule.{Schedule}
 use Rattle.schedule.specs.declared.listening.Received.{Received}
 use Rattle.schedule.proofs.Standing.{stands}
@@ -19,14 +20,17 @@ use Rattle.frame.specs.Reading.{untaken}
 use Rattle.frame.specs.Theorems.{Taken, written_frame}
 use Rattle.frame.specs.Writing.{FirstFit, with_frame}
 use Rattle.frame.proofs.Frames.{round_trip}
+use Rattle.relay.specs.Tables.{table_length_of}
 use Rattle.relay.specs.Telling.{told_from, heard_in, Entered}
 use Rattle.relay.specs.Theorems.{turn_in}
 use Rattle.relay.proofs.Relaying.{heard_as_told}
 use Rattle.node.specs.Nodes.{turn_of, read_in}
 use Rattle.node.specs.Hearing.{taken, values_of, deviation_of_taken}
 use Rattle.node.specs.Runs.{Run, on_bus, sent, Called, Lawful, Started, Standing, Stands, reads, writes}
+use Rattle.node.specs.Settings.{RoundSet, RunsAreSet}
 use Rattle.node.proofs.Stages.{Stage, Moved, heard_of, entered_of, moves, next_stage, sends_at, did_send, comes}
-use Rattle.node.proofs.Rounds.{next_round, none_there, either_heard, ends_at, sets_to, counts_on, reads_next, results_next, end_due_is}
+use Rattle.node.proofs.Rounds.{next_round, none_there, either_heard, ends_at, does_end, sets_to, counts_on, reads_next, results_next, end_due_is}
+use Rattle.node.proofs.Roles.{by_role}
 use Rattle.node.proofs.Cycling.{Kept, agreed}
 
 module _ (s : Schedule) (good : ℕ → Bool) (rounds : ℕ) (r : Run) (law : Lawful s good rounds r) (start : Started s good r) where
@@ -206,6 +210,37 @@ module _ (s : Schedule) (good : ℕ → Bool) (rounds : ℕ) (r : Run) (law : La
           (moved k p q h gp gq.0).entered;
       agreed = λ first is_first h. agreed s good rounds r (entered_of s r) first few kept is_first h;
     }
+
+    -- the end of a round of a run, as one of which the setting's theorems speak
+    set_in : (k : ℕ) → k < rounds → RoundSet s good (λ p. r.node k p n) (λ p. r.node (suc k) p 0) ((on_bus s r).ends k) ((on_bus s r).starts (suc k))
+    set_in k h =
+        let round = bus_stands.goes_round k h in
+        record {
+          config = λ p g. (within k p n h g (omega arith)).place.config;
+          own = λ p g. (within k p n h g (omega arith)).place.own;
+          over = λ p g.
+              let last = within k p n h g (omega arith) in
+              let called = law.called k p n h g (omega arith) in
+              let (first_fits, second_fits) = by_role k (table_length_of s.cluster) (r.first k p n) (r.second k p n) last.read_fits last.write_fits in
+              let shows : (r.node k p n).clock.shown ≤ round_end_of (timing_of s) k = rw (le-ltb n n (omega arith)) at last.shows in
+              record {
+                value = r.value (suc k) p;
+                first = r.first k p n;
+                second = r.second k p n;
+                first_after = r.first (suc k) p 0;
+                second_after = r.second (suc k) p 0;
+                first_fits = first_fits;
+                second_fits = second_fits;
+                later = omega (arith, shows, ends_at s r k p last called);
+                ends = does_end s r k p last called;
+              };
+          fair = round.fair;
+          readable = round.taken;
+          runs = λ p g. let e = law.world.at_once k p h g in (omega (arith, ints, e), omega (arith, ints, e));
+        }
+
+pub runs_are_set : RunsAreSet
+runs_are_set s good rounds r few law start k h = set_in s good rounds r law start few k h
 
 pub stands_always : Stands
 stands_always s good rounds r few law start = standing s good rounds r law start few

@@ -28,7 +28,7 @@ use Rattle.node.specs.Nodes.{read_in, written_in}
 use Rattle.node.specs.Due.{due_of}
 use Rattle.node.specs.Calls.{unended}
 use Rattle.node.specs.Hearing.{taken, deviation_of_taken}
-use Rattle.node.specs.Ending.{missed, value_missed, is_last, EndedBy}
+use Rattle.node.specs.Ending.{Ends, missed, value_missed, is_last, EndedBy}
 use Rattle.node.specs.Runs.{MadeAt, reads, Run, on_bus, Does, Called, writes}
 use Rattle.node.specs.declared.due.Call.TheVariants.{RoundOver}
 use Rattle.node.specs.declared.state.Node.{Node}
@@ -91,11 +91,15 @@ module _ (s : Schedule) (r : Run) where
       pub ends_at : time ≡ round_end_of t k
       ends_at = omega (arith, ends_due, (r.at k p n).below)
 
+      -- the call that was made then, by its contract, and that no row turns away
+      pub does_end :
+          Ends last time (r.value (suc k) p) (r.first k p n) (r.second k p n) (r.node (suc k) p 0) (r.first (suc k) p 0) (r.second (suc k) p 0)
+      does_end = subst (λ due. Does s r k p n time due.call) (due_to_end s r k p n stage.place (omega arith)) called.does
+
       did_end :
           EndedBy last time (r.value (suc k) p) (r.first k p n) (r.second k p n) (r.node (suc k) p 0) (r.first (suc k) p 0)
           (r.second (suc k) p 0)
       did_end =
-          let does = subst (λ due. Does s r k p n time due.call) (due_to_end s r k p n stage.place (omega arith)) called.does in
           let needed : table_length_of s.cluster ≡ table_length_of last.schedule.cluster = sym (ap (λ x. table_length_of x.cluster) stage.place.config) in
           let (first_fits, second_fits) = by_role k (table_length_of s.cluster) (r.first k p n) (r.second k p n) stage.read_fits stage.write_fits in
           let in_time : Timely last time (r.first k p n) (r.second k p n) = record {
@@ -104,7 +108,7 @@ module _ (s : Schedule) (r : Run) where
             first_fits = first_fits ∙ needed;
             second_fits = second_fits ∙ needed;
           } in
-          done (unended last time (r.first k p n) (r.second k p n)) _ _ (ending_taken last time (r.first k p n) (r.second k p n) in_time) does
+          done (unended last time (r.first k p n) (r.second k p n)) _ _ (ending_taken last time (r.first k p n) (r.second k p n) in_time) does_end
 
       -- what the end of the round left
       pub sets_to : (r.node (suc k) p 0).clock.shown ≡ settled s.cluster.faults time (readings n p time last.heard)

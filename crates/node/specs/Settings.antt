@@ -1,6 +1,6 @@
 -- What the setting of good nodes' clocks makes of them, from any clocks and whatever the faulty nodes do. Each statement is demanded by the contract of a
 -- function of src/theorems.rt. Assumes nothing.
-use Rattle.std.specs.Prelude.{◌≡◌, ℕ, ◌+◌, ◌/◌, ◌<◌, ◌≤◌, Bool, List, length, ℤ, pos, ◌+ℤ◌, ◌≤ℤ◌, Option, ◌≢◌}
+use Rattle.std.specs.Prelude.{◌≡◌, ℕ, suc, ◌+◌, ◌/◌, ◌<◌, ◌≤◌, Bool, List, length, ℤ, pos, ◌+ℤ◌, ◌≤ℤ◌, Option, ◌≢◌}
 use Rattle.midpoint.specs.Setting.{clock_limit}
 use Rattle.clock.specs.Config.{error_of}
 use Rattle.clock.specs.Rounds.{Moment, ahead, lead, Within, GoodNode, FewBad, Apart, read_by}
@@ -8,6 +8,7 @@ use Rattle.clock.specs.Theorems.{rest_of}
 use Rattle.schedule.specs.declared.limits.Schedule.{Schedule}
 use Rattle.relay.specs.Tables.{table_length_of}
 use Rattle.node.specs.Ending.{Ends}
+use Rattle.node.specs.Runs.{Run, on_bus, Lawful, Started}
 use Rattle.node.specs.declared.state.Node.{Node}
 
 -- The call that ends a round, with tables as long as the cluster needs, and at a time that is not earlier than the last one. It does what its contract says.
@@ -53,3 +54,9 @@ SetsBetween =
     ((q : ℕ) → GoodNode s.cluster good q → (low ≤ℤ lead (ends q)) × (lead (ends q) ≤ℤ high)) →
     (p : ℕ) → GoodNode s.cluster good p →
     (low ≤ℤ (lead (next p) +ℤ pos (error_of s.cluster + s.cluster.drift))) × (lead (next p) ≤ℤ (high +ℤ pos (error_of s.cluster + s.cluster.drift)))
+
+-- And what this asks is met in each round of a run, whatever the faulty nodes do, up to the moment at which the clocks are set.
+abbrev pub RunsAreSet : Type 0
+RunsAreSet =
+    (s : Schedule) (good : ℕ → Bool) (rounds : ℕ) (r : Run) → FewBad s.cluster good → Lawful s good rounds r → Started s good r → (k : ℕ) → k < rounds →
+    RoundSet s good (λ p. r.node k p s.cluster.nodes) (λ p. r.node (suc k) p 0) ((on_bus s r).ends k) ((on_bus s r).starts (suc k))

@@ -2,7 +2,7 @@
 //! without it; what the function does is nothing.
 ghost use Rattle.node.specs.Runs.{Stands};
 ghost use Rattle.node.specs.Possible.{RunCanBeGiven};
-ghost use Rattle.node.specs.Settings.{SetsCloser, SetsBetween};
+ghost use Rattle.node.specs.Settings.{SetsCloser, SetsBetween, RunsAreSet};
 
 /// The main theorem: whatever the faulty nodes do, good nodes stay together, hear each other, do not overlap, and agree
 /// at the end of each cycle, over any number of rounds.
@@ -24,4 +24,9 @@ pub fn setting_halves_the_distance()
 /// And it pulls no good clock out of what good clocks span, but for the error and the drift.
 pub fn nobody_is_pulled_out()
     ensures { SetsBetween }
+{}
+
+/// What these two ask is met at the end of each round of a run, whatever the faulty nodes do.
+pub fn rounds_of_runs_are_set()
+    ensures { RunsAreSet }
 {}
