@@ -1,15 +1,15 @@
-//! Examples of the rules and the edges of every refusal. The expected values are worked out by hand; the results of seven nodes
-//! by a separate program that follows the rules. In the cycles that are played the good nodes are the first ones of the cluster.
+//! Examples of the rules and the edges of every refusal. The expected values are worked out by hand. In the cycles that are played
+//! the good nodes are the first ones of the cluster.
 use crate::config::Config;
 use crate::due::{Call, Due};
 use crate::ending::Setting;
 use crate::event::Event;
 use crate::refusal::Refusal;
 use crate::state::Node;
-use frame::Turn;
+use frame::{Reception, Turn};
 use midpoint::Code;
 use relay::{MAX_TABLE_LENGTH, table_length};
-use schedule::{Arrival, Received, Schedule};
+use schedule::{Arrival, Listener, Received, Schedule, Told};
 use std::process::Abort;
 
 // No clock shows this time.
@@ -18,18 +18,20 @@ const LIMIT: u64 = 1_000_000_000_000;
 // What is heard of a message.
 type Heard<'a> = Option<Received<&'a [u8]>>;
 
-// What a call answers, in two numbers: the length that is sent, what a frame is turned away for, or to what the clock is set or
-// why it is not; or the number and place by which the call is turned away.
+// What a call answers, in two numbers: the length that is sent, what came in a slot, or to what the clock is set or why it is not;
+// or the number and place by which the call is turned away.
 type Answer = Result<(u64, u64), (u64, u64)>;
 
 // A call, and the local time for it.
 type At = (Call, u64);
 
-// A node and its two tables: the first, which it reads in even rounds, and the second. So many entries of each are lent.
+// A node and its two tables: the first, which it reads in even rounds, and the second. `lent` says how many entries of each are
+// lent, and `lead` how far its clock is ahead of common time.
 #[derive(Clone, Copy)]
 struct Station {
     node: Node,
     lent: [usize; 2],
+    lead: u64,
     even: [u32; 343],
     odd: [u32; 343],
 }
@@ -64,6 +66,7 @@ fn begins(rt: &impl Abort, schedule: Schedule, own: u8, value: u32) -> Station {
     Station {
         node: node.unwrap(),
         lent: [length, length],
+        lead: 0,
         even,
         odd: [7; 343],
     }
@@ -86,8 +89,13 @@ fn sent(length: usize) -> (u64, u64) {
     (length as u64, 0)
 }
 
+// What came in a slot: nothing, a whole frame with a payload of so many bytes, or one that is turned away by this.
 fn came(event: Event<'_>) -> (u64, u64) {
-    event.code().map_or((0, 0), pair)
+    let taken = match event {
+        Event::Frame(Reception::Whole { payload, .. }) => (1, payload.len() as u64),
+        _ => (0, 0),
+    };
+    event.code().map_or(taken, pair)
 }
 
 fn set(setting: Setting) -> (u64, u64) {
@@ -164,6 +172,12 @@ fn same(rt: &impl Abort, station: &Station, other: &Station) {
     assert!(rt; station.even == other.even && station.odd == other.odd);
 }
 
+// These are the tables of one of four nodes: all entries of the first, and those of the second in front of sevens.
+fn tables_are(rt: &impl Abort, station: &Station, even: [u32; 16], odd: [u32; 4]) {
+    assert!(rt; station.even.starts_with(&even));
+    assert!(rt; station.odd.starts_with(&odd) && station.odd.ends_with(&[7; 339]));
+}
+
 // All these nodes have these results.
 fn results_are(rt: &impl Abort, stations: &[Station], wanted: Option<&[u32]>) {
     for station in stations {
@@ -188,17 +202,21 @@ fn arrival(wire: u8, began: u64, message: &[u8]) -> Arrival<&[u8]> {
     }
 }
 
-// The slot of a node is over in which this frame came as it was due, or nothing, if it has no bytes.
-fn hears_due(rt: &impl Abort, station: &mut Station, sender: u8, message: &[u8]) {
+// The slot of a node is over, in which this frame came as it was due by the clock of that node, which is so far ahead of common
+// time, or nothing, if the frame has no bytes. There are 5 bytes in front of its payload.
+fn hears_due(rt: &impl Abort, station: &mut Station, sender: u8, lead: u64, message: &[u8]) {
     let schedule = station.node.schedule;
     let slot = schedule.slot(station.node.clock().round(), usize::from(sender));
     let mut listener = station.node.listener(sender);
+    let mut answer = (0, 0);
     if !message.is_empty() {
-        let came = arrival(sender, schedule.send_time(slot), message);
+        let began = schedule.send_time(slot).saturating_add(station.lead);
+        let came = arrival(sender, began.saturating_sub(lead), message);
         listener = listener.tell(came).listener;
+        answer = (1, (message.len() as u64).saturating_sub(5));
     }
     let at = due_at(rt, &station.node, over(sender));
-    hears(rt, station, at, listener.heard(), (0, 0));
+    hears(rt, station, at, listener.heard(), answer);
 }
 
 // The slot of a good node is over: all others have heard its frame, which is this one, if one is given.
@@ -206,6 +224,7 @@ fn good_slot(rt: &impl Abort, stations: &mut [Station], sender: u8, wanted: &[u8
     assert!(rt; usize::from(sender) < stations.len());
     let mut memory = [0xEE; 125];
     let station = &mut stations[usize::from(sender)];
+    let lead = station.lead;
     let at = due_at(rt, &station.node, Call::Send);
     let (length, _) = calls(rt, station, at, None, &mut memory).unwrap_or((126, 0));
     assert!(rt; length <= 125);
@@ -213,7 +232,7 @@ fn good_slot(rt: &impl Abort, stations: &mut [Station], sender: u8, wanted: &[u8
     assert!(rt; wanted.is_empty() || frame == wanted);
     for station in stations.iter_mut() {
         if station.node.own != sender {
-            hears_due(rt, station, sender, frame);
+            hears_due(rt, station, sender, lead, frame);
         }
     }
 }
@@ -229,8 +248,8 @@ fn good_nodes(rt: &impl Abort, faults: u64, value: u32) -> [Station; 5] {
     stations
 }
 
-// What a liar tells in a round: 9 for so many paths, and then a number.
-fn lie(sender: u8, round: u8, nines: usize, number: u8) -> [u8; 125] {
+// The frame of a node in a round that tells 9 for so many paths, and then a number.
+fn frame_of(sender: u8, round: u8, nines: usize, number: u8) -> [u8; 125] {
     let mut frame = [0; 125];
     frame[0] = sender;
     frame[1] = round;
@@ -259,9 +278,9 @@ fn goes_round(
         for own in 0..good {
             let sender = (good + liar) as u8;
             let number = told[liar][own];
-            let frame = lie(sender, round, nines, number);
+            let frame = frame_of(sender, round, nines, number);
             let sent = if number == 0 { 0 } else { length };
-            hears_due(rt, &mut stations[own], sender, &frame[..sent]);
+            hears_due(rt, &mut stations[own], sender, 0, &frame[..sent]);
         }
     }
     for station in stations.iter_mut() {
@@ -270,7 +289,18 @@ fn goes_round(
     }
 }
 
-// Node 3 tells the others these numbers, and then that it heard 9 of each.
+// Each good node of four has this first table, with its number added to the value in front. In its second one is what it was told
+// in the first round: 5, 6, 7 and this number.
+fn tables_of_four(rt: &impl Abort, stations: &[Station], even: [u32; 16], told: &[u8; 5]) {
+    for (station, number) in stations.iter().zip(told) {
+        let mut even = even;
+        even[0] = even[0].saturating_add(u32::from(station.node.own));
+        tables_are(rt, station, even, [5, 6, 7, u32::from(*number)]);
+    }
+}
+
+// Node 3 tells the others these numbers, and then that it heard 9 of each. In the first table an entry for the path of q in front
+// of p is at the index 4p + q, so that there is none at 5, 10 and 15; at 0 is the value of the next cycle.
 fn cycle_of_four(rt: &impl Abort, stations: &mut [Station], told: &[u8; 5]) {
     let frames = [
         [0, 0, 0, 0, 0, 5, 0, 0, 0].as_slice(),
@@ -279,10 +309,15 @@ fn cycle_of_four(rt: &impl Abort, stations: &mut [Station], told: &[u8; 5]) {
     ];
     goes_round(rt, stations, &frames, &[told], (0, 0, 9));
     results_are(rt, stations, None);
+    let even = [5, 7, 7, 7, 7, 7, 7, 7, 7, 7, 7, 7, 7, 7, 7, 7];
+    tables_of_four(rt, stations, even, told);
     let zero = [0, 1, 0, 0, 0, 6, 0, 0, 0, 7, 0, 0, 0, told[0], 0, 0, 0];
     let one = [1, 1, 0, 0, 0, 5, 0, 0, 0, 7, 0, 0, 0, told[1], 0, 0, 0];
     let two = [2, 1, 0, 0, 0, 5, 0, 0, 0, 6, 0, 0, 0, told[2], 0, 0, 0];
     goes_round(rt, stations, &[&zero, &one, &two], &[&[9; 5]], (1, 3, 17));
+    let [a, b, c, _, _] = told.map(u32::from);
+    let even = [20, 5, 5, 9, 6, 7, 6, 9, 7, 7, 7, 9, a, b, c, 7];
+    tables_of_four(rt, stations, even, told);
 }
 
 // Nodes 0, 1 and 2 give 5, 6 and 7. Node 3 tells them these numbers, 0 if it sends nothing. What all come to for it is what it
@@ -306,7 +341,8 @@ fn liar_of_four(rt: HostRuntime) {
 
 // Nodes 5 and 6 tell the good nodes these numbers, 0 if they send nothing: in the first round as their own, and then as what the
 // other one told. Of the six numbers that are made for node 5 five are what it told the good nodes in the first round, and one
-// is what more than half of these were told of it by node 6 in the second.
+// is what more than half of these were told of it by node 6 in the second. In the second round node 0 tells what it was told in
+// the first.
 #[test]
 fn two_liars_of_seven(rt: HostRuntime) {
     let one = &[1, 1, 1, 2, 2];
@@ -323,9 +359,28 @@ fn two_liars_of_seven(rt: HostRuntime) {
     ] {
         let mut stations = good_nodes(&rt, 2, 10);
         goes_round(&rt, &mut stations, &[], &told[..2], (0, 0, 9));
-        goes_round(&rt, &mut stations, &[], &told[2..4], (1, 5, 29));
+        let [a, b] = [told[0][0], told[1][0]];
+        let zero = [
+            0, 1, 0, 0, 0, 11, 0, 0, 0, 12, 0, 0, 0, 13, 0, 0, 0, 14, 0, 0, 0, a, 0, 0, 0, b, 0, 0,
+            0,
+        ];
+        goes_round(&rt, &mut stations, &[&zero], &told[2..4], (1, 5, 29));
         goes_round(&rt, &mut stations, &[], &told[4..], (2, 25, 125));
         results_are(&rt, &stations, Some(&[10, 11, 12, 13, 14, five, six]));
+    }
+}
+
+// The clocks of the nodes 0, 1 and 2 are ahead of common time by 0, 4 and 10. Node 3 is silent, and is read as the own clock. As
+// the round ends node 0 reads 800, 804, 810 and 800, node 1 reads 796, 800, 806 and 800, and node 2 reads 790, 794, 800 and 800.
+#[test]
+fn clocks_that_differ(rt: HostRuntime) {
+    let [zero, one, two, _, _] = good_nodes(&rt, 1, 5);
+    let mut stations = [zero, one, two];
+    stations[1].lead = 4;
+    stations[2].lead = 10;
+    goes_round(&rt, &mut stations, &[], &[&[0; 5]], (0, 0, 9));
+    for (station, time) in stations.iter().zip([802, 800, 797]) {
+        assert!(rt; station.node.clock().shown() == time);
     }
 }
 
@@ -390,18 +445,26 @@ fn nodes_refused(rt: HostRuntime) {
     assert!(rt; table == [5, 7, 7, 7, 7, 7, 7, 7, 7, 7, 7, 7, 7, 7, 7, 7, 7]);
 }
 
-// Calls at these times, with so many entries of the tables and so much memory, and by what they are turned away. The node, the
-// tables and the memory are then as before.
+// Calls of one of four nodes in its first or second round at these times, with so many entries of the tables and so much memory,
+// and by what they are turned away. In the slot of another node a frame comes that would else be heard whole. The node, the tables
+// and the memory are then as before.
 type Refused = (Call, u64, [usize; 3], (u64, u64));
 
 fn refused(rt: &impl Abort, before: &Station, cases: &[Refused]) {
+    let round = (before.node.clock().round() % 2) as u8;
     for (call, time, [first, second, length], wanted) in cases {
         assert!(rt; *length <= 17);
+        let sender = match call {
+            Call::SlotOver { sender } => *sender,
+            _ => 0,
+        };
+        let frame = frame_of(sender, round, 0, 6);
+        let heard = ahead(9, &frame[..if round == 0 { 9 } else { 17 }]);
         let mut after = *before;
         after.lent = [*first, *second];
         let mut memory = [0xEE; 17];
         let room = &mut memory[..*length];
-        let answer = calls(rt, &mut after, (*call, *time), None, room);
+        let answer = calls(rt, &mut after, (*call, *time), heard, room);
         answers(rt, answer, Err(*wanted));
         same(rt, before, &after);
         assert!(rt; memory == [0xEE; 17]);
@@ -474,6 +537,7 @@ fn last_time_is_taken(rt: HostRuntime) {
     sends(&rt, &mut other, &mut [0; 9], 9);
     same(&rt, &one, &other);
     takes(&rt, &mut one, Call::RoundOver, LIMIT - 1);
+    refused(&rt, &one, &[(Call::Send, LIMIT - 1, [16, 16, 16], (7, 16))]);
     sends(&rt, &mut one, &mut [0; 17], 17);
     due_is(&rt, &one.node, over(0), 1000);
 }
@@ -490,7 +554,7 @@ fn turned_away(rt: &impl Abort, before: &Station, message: &[u8], code: (u64, u6
 // It is heard, and has these values.
 fn heard_whole(rt: &impl Abort, before: &Station, message: &[u8], values: [u32; 3]) {
     let mut after = *before;
-    hears(rt, &mut after, (over(3), 820), ahead(9, message), (0, 0));
+    hears(rt, &mut after, (over(3), 820), ahead(9, message), (1, 12));
     let Station { node, even, .. } = after;
     let deviations = node.heard;
     assert!(rt; [even[3], even[7], even[11]] == values && deviations[3] == Some(9));
@@ -530,6 +594,18 @@ fn frames_turned_away(rt: HostRuntime) {
     heard_whole(&rt, &station, &later, [2, 4, 5]);
 }
 
+// A listener is told of a message and takes it. This is then what it hears.
+fn listens<'a>(
+    rt: &impl Abort,
+    listener: Listener<&'a [u8]>,
+    came: Arrival<&'a [u8]>,
+    wanted: Heard<'a>,
+) -> Listener<&'a [u8]> {
+    let Told { listener, answer } = listener.tell(came);
+    assert!(rt; answer.is_ok() && listener.heard() == wanted);
+    listener
+}
+
 // In the slot of node 3, which is from 600 to 800, two frames come, so nothing is heard. No other call for the slot is then taken.
 #[test]
 fn two_messages_in_a_slot(rt: HostRuntime) {
@@ -537,15 +613,16 @@ fn two_messages_in_a_slot(rt: HostRuntime) {
     let mut station = silent;
     let frame = [3, 0, 0, 0, 0, 9, 0, 0, 0];
     let listener = silent.node.listener(3);
-    let listener = listener.tell(arrival(3, 610, &frame)).listener;
-    let heard = listener.tell(arrival(3, 700, &frame)).listener.heard();
-    hears(&rt, &mut station, (over(3), 800), heard, (0, 0));
+    let listener = listens(&rt, listener, arrival(3, 610, &frame), ahead(0, &frame));
+    let listener = listens(&rt, listener, arrival(3, 700, &frame), None);
+    hears(&rt, &mut station, (over(3), 800), listener.heard(), (0, 0));
     takes(&rt, &mut silent, over(3), 800);
     same(&rt, &station, &silent);
     refused(&rt, &station, &[(over(3), 800, [16, 16, 0], (11, 0))]);
 }
 
 // In a round of four that begins at a time these calls are due: a node sends, or another one's slot is over, and last the round.
+// All others are silent, so that the clock is set to what it shows.
 fn goes_through(rt: &impl Abort, station: &mut Station, times: [u64; 5]) {
     let own = usize::from(station.node.own);
     for slot in 0..5 {
@@ -557,6 +634,7 @@ fn goes_through(rt: &impl Abort, station: &mut Station, times: [u64; 5]) {
         due_is(rt, &station.node, call, times[slot]);
         takes(rt, station, call, times[slot]);
     }
+    assert!(rt; station.node.clock().shown() == times[4]);
 }
 
 #[test]
@@ -596,18 +674,17 @@ fn due_in_another_order(rt: HostRuntime) {
 fn slots_that_are_missing(rt: HostRuntime) {
     let mut station = one_of_four(&rt, 1);
     let zero = [0, 0, 0, 0, 0, 6, 0, 0, 0];
-    hears(&rt, &mut station, (over(0), 200), ahead(0, &zero), (0, 0));
+    hears(&rt, &mut station, (over(0), 200), ahead(0, &zero), (1, 4));
     takes(&rt, &mut station, Call::RoundOver, 800);
     let even = [5, 7, 7, 7, 7, 7, 7, 7, 7, 7, 7, 7, 7, 7, 7, 7];
-    let odd = [6, 5, 0, 0, 7, 7, 7, 7, 7, 7, 7, 7, 7, 7, 7, 7];
-    assert!(rt; station.even.starts_with(&even) && station.odd.starts_with(&odd));
+    tables_are(&rt, &station, even, [6, 5, 0, 0]);
     let two = [2, 1, 0, 0, 0, 6, 0, 0, 0, 5, 0, 0, 0, 4, 0, 0, 0];
-    hears(&rt, &mut station, (over(2), 1400), ahead(0, &two), (0, 0));
+    hears(&rt, &mut station, (over(2), 1400), ahead(0, &two), (1, 12));
     let zero = [0, 1, 0, 0, 0, 5, 0, 0, 0, 8, 0, 0, 0, 3, 0, 0, 0];
-    hears(&rt, &mut station, (over(0), 1500), ahead(0, &zero), (0, 0));
+    hears(&rt, &mut station, (over(0), 1500), ahead(0, &zero), (1, 12));
     takes(&rt, &mut station, Call::RoundOver, 1600);
     let even = [21, 6, 6, 0, 5, 7, 5, 0, 8, 0, 7, 0, 3, 0, 4, 7];
-    assert!(rt; station.even.starts_with(&even) && station.odd.starts_with(&odd));
+    tables_are(&rt, &station, even, [6, 5, 0, 0]);
     results_are(&rt, &[station], Some(&[6, 5, 0, 0]));
     takes(&rt, &mut station, Call::RoundOver, 2400);
     results_are(&rt, &[station], Some(&[6, 5, 0, 0]));
@@ -618,7 +695,7 @@ fn slots_that_are_missing(rt: HostRuntime) {
 fn cycles_of_one_round(rt: HostRuntime) {
     let mut station = begins(&rt, schedule_of(&rt, 4, 0), 1, 5);
     let zero = [0, 0, 0, 0, 0, 8, 0, 0, 0];
-    hears(&rt, &mut station, (over(0), 200), ahead(0, &zero), (0, 0));
+    hears(&rt, &mut station, (over(0), 200), ahead(0, &zero), (1, 4));
     takes(&rt, &mut station, Call::Send, 210);
     takes(&rt, &mut station, Call::RoundOver, 800);
     results_are(&rt, &[station], Some(&[8, 5, 0, 0]));
@@ -626,43 +703,52 @@ fn cycles_of_one_round(rt: HostRuntime) {
     results_are(&rt, &[station], Some(&[0, 11, 0, 0]));
 }
 
-// Node 0 of four hears the others with these deviations, and ends the round at 800. This is answered.
-fn sets(rt: &impl Abort, deviations: [i64; 3], answer: (u64, u64)) -> Station {
-    let mut station = one_of_four(rt, 0);
+// Node 0 of four or five hears the others with these deviations, and ends the round at 800 or 1000. This is answered.
+fn sets(rt: &impl Abort, deviations: &[i64], answer: (u64, u64)) -> Station {
+    assert!(rt; deviations.len() <= 4);
+    let nodes = deviations.len() as u64 + 1;
+    let end = 200 * nodes;
+    let mut station = begins(rt, schedule_of(rt, nodes, 1), 0, 5);
     takes(rt, &mut station, Call::Send, 10);
-    for index in 0..3 {
+    for index in 0..deviations.len() {
         let sender = index as u8 + 1;
         let frame = [sender, 0, 0, 0, 0, 6, 0, 0, 0];
         let heard = ahead(deviations[index], &frame);
-        hears(rt, &mut station, (over(sender), 800), heard, (0, 0));
+        hears(rt, &mut station, (over(sender), end), heard, (1, 4));
     }
-    hears(rt, &mut station, (Call::RoundOver, 800), None, answer);
-    due_is(rt, &station.node, Call::Send, 810);
+    hears(rt, &mut station, (Call::RoundOver, end), None, answer);
+    due_is(rt, &station.node, Call::Send, end + 10);
     station
 }
 
-// The readings are 800 and three others. Of the two in the middle the mean is taken, rounded down. A reading stops at 0; one of
-// 10^12 or more is turned away.
+// The readings are 800 and three others, or 1000 and four. Of the second lowest and the second highest the mean is taken, rounded
+// down. A reading stops at 0; one of 10^12 or more is turned away, and the node and its tables are as if all were read as 800.
 #[test]
 fn clocks_set(rt: HostRuntime) {
+    let level = sets(&rt, &[0, 0, 0], (800, 0));
     for (deviations, answer, shown) in [
-        ([0, 0, 0], (800, 0), 800),
-        ([3, -4, 100_000_000_000], (801, 0), 801),
-        ([-100_000_000_000, 3, -4], (798, 0), 798),
-        ([30, 999_999_999_199, 40], (835, 0), 835),
-        ([30, 40, 999_999_999_200], (3, 3), 800),
-        ([30, i64::MAX, 999_999_999_200], (3, 2), 800),
+        ([0, 0, 0].as_slice(), (800, 0), 800),
+        (&[3, -4, 100_000_000_000], (801, 0), 801),
+        (&[-100_000_000_000, 3, -4], (798, 0), 798),
+        (&[30, 999_999_999_199, 40], (835, 0), 835),
+        (&[30, 40, 999_999_999_200], (3, 3), 800),
+        (&[30, i64::MAX, 999_999_999_200], (3, 2), 800),
+        (&[10, 20, 30, 40], (1020, 0), 1020),
     ] {
-        let set = sets(&rt, deviations, answer);
-        assert!(rt; set.node.clock().shown() == shown);
+        let station = sets(&rt, deviations, answer);
+        assert!(rt; station.node.clock().shown() == shown);
+        if shown == 800 {
+            same(&rt, &station, &level);
+        }
     }
 }
 
 // The others are behind by 150, so that the clock shows 650 as the second round begins, a time in the slot of node 3. The slots of
-// the second round come one after the other all the same. What was heard in the first one does not set the clock again.
+// the second round come one after the other all the same. What was heard in the first one does not set the clock again. A frame of
+// node 3 in the first one that comes only now is not heard in its second slot, and is turned away if it is handed over.
 #[test]
 fn clock_set_back(rt: HostRuntime) {
-    let mut station = sets(&rt, [-150, -150, -150], (650, 0));
+    let mut station = sets(&rt, &[-150, -150, -150], (650, 0));
     let early = [
         (Call::Send, 649, [16, 16, 17], (12, 0)),
         (over(3), 649, [16, 16, 17], (12, 0)),
@@ -673,11 +759,19 @@ fn clock_set_back(rt: HostRuntime) {
     takes(&rt, &mut at_once, over(3), 650);
     takes(&rt, &mut at_once, Call::RoundOver, 660);
     assert!(rt; at_once.node.clock().shown() == 660);
+    let old = [3, 0, 0, 0, 0, 6, 0, 0, 0];
+    let new = [3, 1, 0, 0, 0, 6, 0, 0, 0, 7, 0, 0, 0, 8, 0, 0, 0];
+    let listener = listens(&rt, station.node.listener(3), arrival(3, 660, &old), None);
+    listens(&rt, listener, arrival(3, 1410, &new), ahead(0, &new));
+    let mut late = station;
+    hears(&rt, &mut late, (over(3), 1600), ahead(0, &old), (7, 9));
     goes_through(&rt, &mut station, [810, 1200, 1400, 1600, 1600]);
     due_is(&rt, &station.node, Call::Send, 1610);
 }
 
-// In the fourth round of a cycle of sixteen a frame has 5 bytes and 4 for each of 15 * 14 * 13 values. All others are silent.
+// In the fourth round of a cycle of sixteen a frame has 5 bytes and 4 for each of 15 * 14 * 13 values. All others are silent, but
+// for node 2 in the third round: of its 15 * 14 values the first, for the path 1, 0, is 6, and the others are 0. In the fourth
+// round the first value of node 15 is for the path 2, 1, 0.
 #[test]
 fn longest_frame(rt: HostRuntime) {
     let mut first = [7; MAX_TABLE_LENGTH];
@@ -685,14 +779,24 @@ fn longest_frame(rt: HostRuntime) {
     let node = Node::new(schedule_of(&rt, 16, 3), 15, 0, 5, &mut first);
     assert!(rt; node.is_ok());
     let mut node = node.unwrap();
-    for _ in 0..3 {
+    let mut frame = [0; 845];
+    frame[..6].copy_from_slice(&[2, 2, 0, 0, 0, 6]);
+    for _ in 0..2 {
         node = node.round_over(0, 50, &mut first, &mut second).node;
     }
+    let heard = ahead(0, &frame);
+    node = node.slot_over(0, 2, heard, &mut first, &mut second).node;
+    node = node.round_over(0, 50, &mut first, &mut second).node;
+    let tables = [first, second];
     let mut memory = [0xEE; 10_926];
     let step = node.send(0, &mut first, &mut second, &mut memory[..10_924]);
     let short = step.answer.map(sent).map_err(refusal);
     answers(&rt, short, Err((7, 10_924)));
-    let step = step.node.send(0, &mut first, &mut second, &mut memory);
+    assert!(rt; step.node == node && [first, second] == tables && memory == [0xEE; 10_926]);
+    let step = node.send(0, &mut first, &mut second, &mut memory);
     assert!(rt; step.answer == Ok(10_925));
-    assert!(rt; memory.starts_with(&[15, 3, 0, 0, 0, 0]) && memory.ends_with(&[0, 0xEE]));
+    let mut wanted = [0; 10_926];
+    wanted[..6].copy_from_slice(&[15, 3, 0, 0, 0, 6]);
+    wanted[10_925] = 0xEE;
+    assert!(rt; memory == wanted);
 }
