@@ -25,12 +25,13 @@ pub enum Setting {
 }
 
 impl Node {
-    /// The round is over: the clock is set by what was heard in it, or stays as it is where the readings are turned away. The answer
-    /// says which, and the local clock is to go on from there. The round counts on, and the tables change places. A slot that is not over yet is
-    /// over now, with nothing heard in it; if it is the own one, the node enters what it would have told. At the end of a cycle the
-    /// results stand, and the value is the one that the node gives in the next cycle; at the end of other rounds it is not used. A time of 10^12 or more
-    /// is refused, 3 at the own number; then tables of another length than the cluster needs, 10 at the length needed; then a time
-    /// that is earlier than the last one, 12 at 0. The node and the tables are then as before.
+    /// The round is over: the clock is set by what was heard in it, or stays as it is where the readings are turned away. The
+    /// answer says which, and the local clock is to go on from there. The round counts on, and the tables change places. A slot
+    /// that is not over yet is over now, with nothing heard in it; if it is the own one, the node enters what it would have
+    /// told. At the end of a cycle the results stand, and the value is the one that the node gives in the next cycle; at the
+    /// end of other rounds it is not used. A time of 10^12 or more is refused, 3 at the own number; then tables of another
+    /// length than the cluster needs, 10 at the length needed; then a time that is earlier than the last one, 12 at 0. The node
+    /// and the tables are then as before.
     pub fn round_over(
         self,
         time: u64,

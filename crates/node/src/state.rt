@@ -42,11 +42,11 @@ impl Node {
     ghost use Rattle.node.specs.Nodes.{turn_of, reads_first, results_in};
     ghost use Rattle.node.specs.Starting.{unmade, MadeWith};
 
-    /// A node that has this number in the cluster, and gives this value in its first cycle. It begins in round 0, at a local time that
-    /// is not past its first due time if it is to miss nothing, with the first of its two tables, into which the value is put; what
-    /// the second one holds does not matter. A time of 10^12 or more is refused, 3 at the own number;
-    /// then a table of another length than the cluster needs, 10 at the length needed; then a number past the cluster, 11 at 0.
-    /// The table is then left as it was.
+    /// A node that has this number in the cluster, and gives this value in its first cycle. It begins in round 0, at a local
+    /// time that is not past its first due time if it is to miss nothing, with the first of its two tables, into which the
+    /// value is put; what the second one holds does not matter. A time of 10^12 or more is refused, 3 at the own number; then a
+    /// table of another length than the cluster needs, 10 at the length needed; then a number past the cluster, 11 at 0. The
+    /// table is then left as it was.
     pub fn new(
         schedule: Schedule,
         own: u8,
