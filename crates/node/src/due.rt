@@ -23,16 +23,15 @@ pub struct Due {
 }
 
 impl Node {
-    /// The call that comes next, and the local time for it. The slots of a round are over one after the other: the next one is that of
-    /// the first node whose slot is not over yet.
+    /// The call that comes next, and the local time for it. The slots of a round are over one after the other: the next one is
+    /// that of the first node whose slot is not over yet.
     ///
     /// - If it is the own one, the node sends, when its clock is a pause behind the slot's start.
     /// - If it is another node's, it is over when the clock shows the slot's end.
     /// - If there is none, the round is over, when the clock shows its end.
     ///
-    /// The time may be past, as it is where a node was made late, or a call was missed: then the call is to be made now, and what is sent then is
-    /// late. A time
-    /// past 2^64 - 1 is given as that.
+    /// The time may be past, as it is where a node was made late, or a call was missed: then the call is to be made now, and what
+    /// is sent then is late. A time past 2^64 - 1 is given as that.
     pub fn due(&self) -> Due
         ensures { result ≡ due_of self.now }
     {
