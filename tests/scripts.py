@@ -6,11 +6,20 @@ of the script alone, and not from the code that reads it.
 
 import random
 import sys
+from itertools import permutations
+from math import perm
 
 TOP = 2**64 - 1
 LIMIT = 10**12  # readings from here on are turned away
 VALUES = 2**32
 LONGEST = 10**9
+HEADER = 5  # bytes of a frame before its values
+LONGEST_FRAME = 10925  # in bytes, of any cluster
+
+
+def frame(sender, k, values):
+    numbers = [value.to_bytes(4, "little") for value in values]
+    return bytes([sender]) + (k % 2**32).to_bytes(4, "little") + b"".join(numbers)
 
 
 class Maker:
@@ -57,7 +66,11 @@ class Maker:
     def cluster(self):
         self.faults = self.between(0, 3)
         fewest = max(4, 3 * self.faults + 1)
-        self.nodes = fewest if self.chance(0.3) else self.between(fewest, 16)
+        # Three faults make long frames: few large clusters of them.
+        most = 11 if self.faults == 3 and self.chance(0.9) else 16
+        self.nodes = fewest if self.chance(0.3) else self.between(fewest, most)
+        rounds = 12 if self.faults < 3 or self.nodes < 12 else 5
+        self.rounds = 0 if self.chance(0.04) else self.between(1, rounds)
         self.drift = self.small_limit()
         self.jitter = self.small_limit()
         self.error = self.jitter + 2 * self.drift
@@ -104,7 +117,7 @@ class Maker:
         if kind == "edge":
             return self.near(LIMIT, 10)
         if kind == "later":  # comes to the edge in some later round
-            k = self.between(0, max(1, self.count))
+            k = self.between(0, max(1, self.rounds))
             return self.near(LIMIT - k * self.nodes * self.length, 10)
         if kind == "past":
             return self.between(LIMIT, TOP)
@@ -119,6 +132,7 @@ class Maker:
         odd = self.pick(wide=4, edge=2, past=1, top=1) if self.chance(0.12) else main
         base = self.any_size(10**11)
         self.aheads = {}
+        self.given = {b: self.any_size(VALUES) for b in self.bad}  # in this cycle
         lines = []
         if self.chance(0.7):
             order.sort()
@@ -127,10 +141,14 @@ class Maker:
                 lines.append(f"bad {p}")
                 continue
             self.aheads[p] = self.ahead(odd if self.chance(0.2) else main, base)
-            lines.append(f"good {p} value {self.any_size(VALUES)} ahead {self.aheads[p]}")
+            self.given[p] = self.any_size(VALUES)
+            lines.append(f"good {p} value {self.given[p]} ahead {self.aheads[p]}")
+        self.next = dict(self.given)  # to be given in the next cycle
+        few = [0, 1, VALUES - 1, self.any_size(VALUES)]
+        self.liked = few[: self.between(1, 4)] + list(self.given.values())
         return lines
 
-    # The rounds.
+    # The rounds: the clocks that the bad nodes claim to have.
 
     def far_off(self):
         if self.tame:
@@ -181,16 +199,119 @@ class Maker:
                 said += [(p, same if alike else self.believable()) for _ in range(times)]
         return said
 
-    def values(self):
-        count = self.random.choice([1, 1, 1, 2, 3, 5])
-        return " ".join(str(self.any_size(VALUES)) for _ in range(count))
+    # The messages that the bad nodes send: right frames with lies in them.
 
-    def round(self, k):
-        self.common = k * self.nodes * self.length
+    def count(self, place):
+        """How many values a frame has."""
+        return perm(self.nodes - 1, place)
+
+    def truth(self, b):
+        """The values of a frame by which each node told what the first one gave."""
+        if self.place == 0:
+            return [self.given[b]]
+        others = [q for q in range(self.nodes) if q != b]
+        # From its last node to its first: whose value it is stands in front here.
+        return [self.given[row[0]] for row in permutations(others, self.place)]
+
+    def some_value(self):
+        return self.random.choice(self.liked) if self.chance(0.8) else self.any_size(VALUES)
+
+    def changed(self, values, rate):
+        return [self.some_value() if self.chance(rate) else value for value in values]
+
+    def stories(self, b):
+        """For each good node the values that b tells it."""
+        truth = self.truth(b)
+        rate = self.random.choice([0.05, 0.3, 1])
+        one, other = self.changed(truth, rate), self.changed(truth, rate)
+        if self.chance(0.3):  # the same lie on all paths
+            other = [self.some_value()] * len(truth)
+        side = self.between(0, self.nodes)
+        kind = self.pick(two_faced=4, same=2, each=3, true=1)
+        if kind == "two_faced":
+            return {p: one if p < side else other for p in self.good}
+        if kind == "same":
+            return {p: one for p in self.good}
+        if kind == "each":
+            return {p: self.changed(truth, rate) for p in self.good}
+        return {p: truth for p in self.good}
+
+    # And what is no right frame.
+
+    def wrong_count(self, values):
+        """One value or more, but mostly not as many as the round asks."""
+        kind = self.pick(fewer=2, more=2, few=3, place=2)
+        if kind == "fewer":
+            return values[: max(1, len(values) - 1)]
+        if kind == "more":
+            return values + [self.some_value()]
+        if kind == "few":
+            return [self.some_value() for _ in range(self.between(1, 5))]
+        place = self.between(0, self.faults)
+        return [self.some_value() for _ in range(self.count(place))]
+
+    def noise(self, least, most):
+        return self.random.randbytes(self.between(least, most))
+
+    def wrong_sender(self, b):
+        one_off = [max(0, b - 1), b + 1, b + 16, 255]
+        return self.random.choice([self.between(0, self.nodes - 1), self.random.choice(one_off)])
+
+    def wrong_round(self, k):
+        cycle = self.faults + 1
+        near = [k - 1, k + 1, k - cycle, k + cycle, k + 2**8, k + 2**16, k + 2**24]
+        return self.random.choice(near) % 2**32
+
+    def some_bytes(self, b, k, values):
+        """Near to a right frame, mostly."""
+        whole = frame(b, k, values)
+        kind = self.pick(
+            right=10, cut=20, longer=10, sender=20, round=20, both=10, short=10, noise=10,
+            sized=10, huge=1,
+        )
+        if kind == "cut":
+            at = self.random.choice([self.between(1, len(whole)), 1, 4, 5, len(whole) - 1])
+            return whole[:at]
+        if kind == "longer":
+            return whole + self.noise(1, 5)
+        if kind == "sender":
+            return frame(self.wrong_sender(b), k, values)
+        if kind == "round":
+            return frame(b, self.wrong_round(k), values)
+        if kind == "both":
+            return frame(self.wrong_sender(b), self.wrong_round(k), values)
+        if kind == "short":  # wrong in more than one way
+            return frame(self.wrong_sender(b), self.wrong_round(k), self.wrong_count(values))
+        if kind == "noise":
+            return self.noise(1, 20)
+        if kind == "sized":  # as long as a right one
+            return self.noise(len(whole), len(whole))
+        if kind == "huge":
+            return whole + self.noise(LONGEST_FRAME, LONGEST_FRAME + 100)
+        return whole
+
+    def content(self, b, k, values, wrong):
+        """How a `says` line ends."""
+        if self.chance(wrong):
+            if self.chance(0.6):
+                return f"bytes {self.some_bytes(b, k, values).hex()}"
+            values = self.wrong_count(values)
+        return "value " + " ".join(map(str, values))
+
+    def says(self, b, k):
+        stories = self.stories(b)
+        wrong = self.random.choice([0, 0, 0, 0.1, 0.5, 1])
         lines = []
-        for b in self.bad:
-            for p, reading in self.lies(b):
-                lines.append(f"says {b} to {p} reading {reading} value {self.values()}")
+        for p, reading in self.lies(b):
+            content = self.content(b, k, stories[p], wrong)
+            lines.append(f"says {b} to {p} reading {reading} {content}")
+        return lines
+
+    # All that stands in a round.
+
+    def errors(self):
+        """The good clocks' errors in a round."""
+        lines = []
         jitters = self.random.choice([0, 0.1, 0.5, 1])
         drifts = self.random.choice([0, 0.3, 1])
         for p in self.good:
@@ -199,17 +320,36 @@ class Maker:
                     lines.append(f"jitter {p} of {q} by {self.signed(self.error)}")
             if self.chance(drifts):
                 lines.append(f"drift {p} by {self.signed(self.drift)}")
+        return lines
+
+    def next_values(self):
+        lines = []
+        for p in self.good:
+            if self.chance(self.often):
+                self.next[p] = self.some_value()
+                lines.append(f"value {p} next {self.next[p]}")
+        return lines
+
+    def round(self, k):
+        self.common = k * self.nodes * self.length
+        self.place = k % (self.faults + 1)
+        lines = []
+        for b in self.bad:
+            lines += self.says(b, k)
+        lines += self.errors() + self.next_values()
+        if self.place == self.faults:
+            self.given = dict(self.next)
         if self.chance(0.5):
             self.random.shuffle(lines)
         return ["round"] + lines
 
     def script(self):
-        self.count = 0 if self.chance(0.04) else self.between(1, 12)
         lines = [self.cluster(), self.timing()]
         lines += self.good_and_bad()
         self.tame = self.chance(0.5)  # no lies that are turned away
         self.silent = [b for b in self.bad if self.chance(0.1)]
-        for k in range(self.count):
+        self.often = self.random.choice([0, 0.1, 0.4])  # that a next value is named
+        for k in range(self.rounds):
             lines += self.round(k)
         return lines
 
@@ -221,6 +361,7 @@ class Maker:
     def comment(self):
         return "#" + self.random.choice(
             ["", "#", " a comment", "round", " round", "\tbad 0 # twice", " drift 0 by 99999"]
+            + [" value 0 next 7"]
         )
 
     def untidy(self, lines):

@@ -1,34 +1,53 @@
-//! `bench FILE`: plays a script of a cluster, and prints the good clocks of each round. A script that is
-//! wrong anywhere prints nothing but the reason, on standard error, and the program ends with status 1.
+//! `bench`: plays a script of a cluster, prints each round, and draws a picture of it if it is asked to.
+//!
+//! - `words`: what the words of the command line ask for.
+//! - `failure`: why a script is not played to its end.
+//! - `reading`: a script, line after line, and who takes its rounds.
+//! - `stage`: the rounds are played and printed.
+//! - `show`: the lines of a round.
+//! - `history`, `picture`, `clocks_panel`, `readings_panel`, `results_panel`, `svg`: the picture.
 
 #![tactic(auto)]
 
-mod entry;
-mod reason;
-mod script;
-#[cfg(test)]
-mod tests;
+mod clocks_panel;
+mod failure;
+mod history;
+mod picture;
+mod reading;
+mod readings_panel;
+mod results_panel;
+mod show;
+mod stage;
+mod svg;
+mod words;
 
+use crate::failure::Failure;
+use crate::history::History;
+use crate::words::{Command, Wish};
+use std::alloc::Global;
 use std::fmt::Display;
+use std::fs::File;
+use std::io::{BufRead, BufReader, BufWriter, Read};
 use std::process::ExitCode;
-use std::{env, fs};
+use std::{env, fs, io};
+
+const USAGE: &str = "usage: bench [--plot OUT.svg] [FILE]";
+
+const HELP: &str = "usage: bench [--plot OUT.svg] [FILE]
+Plays a script of a cluster, of FILE or of standard input, and prints each round.
+  --plot OUT.svg   draws a picture of its first 400 rounds, too
+  --help           prints this
+Of a script that is wrong anywhere it prints 'line N: reason', on standard error, and ends with status 1.";
 
 fn main(rt: HostRuntime) -> anyhow::Result<ExitCode> {
-    let mut words = env::args(&rt)?;
-    let _program = words.next();
-    let (Some(path), None) = (words.next(), words.next()) else {
-        return fail(&rt, "usage: bench FILE");
-    };
-    let text = match fs::read_to_string(&rt, path.as_str()) {
-        Ok(text) => text,
-        Err(error) => return fail(&rt, format!(in rt.alloc(); "cannot read {path}: {error}")?),
-    };
-    match script::output(rt.alloc(), text.as_str()) {
-        Ok(out) => {
-            rt.print(out.as_str())?;
+    let words: Vec<String> = env::args(&rt)?.skip(1).collect(rt.alloc())?;
+    match words::asked_for(words.as_slice()) {
+        Some(Command::Help) => {
+            rt.println(HELP)?;
             Ok(ExitCode::SUCCESS)
         }
-        Err(fault) => fail(&rt, fault),
+        Some(Command::Play(wish)) => fulfil(&rt, &wish),
+        None => fail(&rt, USAGE),
     }
 }
 
@@ -36,4 +55,70 @@ fn main(rt: HostRuntime) -> anyhow::Result<ExitCode> {
 fn fail(rt: &HostRuntime, why: impl Display + Drop) -> anyhow::Result<ExitCode> {
     eprintln!(rt; "{why}")?;
     Ok(ExitCode::FAILURE)
+}
+
+// Plays the script, and draws the picture.
+fn fulfil(rt: &HostRuntime, wish: &Wish<'_>) -> anyhow::Result<ExitCode> {
+    let source = wish.file.unwrap_or("standard input");
+    match play(rt, wish) {
+        Ok(history) => draw(rt, wish, history.as_ref()),
+        Err(Failure::Unread(error)) => {
+            fail(rt, format!(in rt.alloc(); "cannot read {source}: {error}")?)
+        }
+        Err(Failure::Wrong(fault)) => fail(rt, fault),
+        Err(Failure::Unprinted(error)) => Err(error.into()),
+    }
+}
+
+// Plays the script of a file or of standard input. The answer is what a picture shows of it.
+fn play(rt: &HostRuntime, wish: &Wish<'_>) -> Result<Option<History>, Failure> {
+    let Some(path) = wish.file else {
+        return play_once_read(rt, wish, rt.reader());
+    };
+    let metadata = fs::metadata(rt, path).map_err(Failure::Unread)?;
+    if !metadata.is_file() {
+        return play_once_read(rt, wish, opened(rt, path)?);
+    }
+    reading::check(rt.alloc(), opened(rt, path)?)?;
+    play_checked(rt, wish, opened(rt, path)?)
+}
+
+// Plays a script that can be read only once, as that of a pipe: its text is kept.
+fn play_once_read<R: Read + Drop>(
+    rt: &HostRuntime,
+    wish: &Wish<'_>,
+    mut script: R,
+) -> Result<Option<History>, Failure> {
+    let mut text = Vec::new(rt.alloc());
+    script.read_to_end(&mut text).map_err(Failure::Unread)?;
+    reading::check(rt.alloc(), text.as_slice())?;
+    play_checked(rt, wish, text.as_slice())
+}
+
+// Plays a script that was checked.
+fn play_checked<B: BufRead + Drop>(
+    rt: &HostRuntime,
+    wish: &Wish<'_>,
+    script: B,
+) -> Result<Option<History>, Failure> {
+    let out = BufWriter::new(rt.alloc(), io::writer(rt))?;
+    stage::play(rt.alloc(), script, out, wish.picture.is_some())
+}
+
+// A file, to be read from its start.
+fn opened(rt: &HostRuntime, path: &str) -> Result<BufReader<File>, Failure> {
+    let file = File::open(rt, path).map_err(Failure::Unread)?;
+    BufReader::new(rt.alloc(), file).map_err(Failure::Unread)
+}
+
+// Draws the picture, if one is wished for.
+fn draw(rt: &HostRuntime, wish: &Wish<'_>, history: Option<&History>) -> anyhow::Result<ExitCode> {
+    let (Some(path), Some(history)) = (wish.picture, history) else {
+        return Ok(ExitCode::SUCCESS);
+    };
+    let svg = picture::picture(rt.alloc(), history)?;
+    match fs::write(rt, path, svg.as_str()) {
+        Ok(()) => Ok(ExitCode::SUCCESS),
+        Err(error) => fail(rt, format!(in rt.alloc(); "cannot write {path}: {error}")?),
+    }
 }

@@ -1,3 +1,12 @@
-mod Playing
-mod Possible
-mod Spans
+mod Along
+mod Behind
+mod Clocks
+mod Cycles
+mod Each
+mod Ending
+mod Keeping
+mod Little
+mod Over
+mod Scripts
+mod Sequel
+mod Starting

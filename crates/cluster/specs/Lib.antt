@@ -1,2 +1,4 @@
-pub mod Rounds
-pub mod Theorems
+pub mod Limits
+pub mod Playing
+pub mod Standing
+pub mod Stations

@@ -1,16 +1,16 @@
-//! A cluster of which a script plays the faulty nodes: the good nodes' clocks, and what a round makes of
-//! them.
+//! A cluster of which a script plays the faulty nodes: real nodes, called as a driver calls them, on a bus of numbers.
 //!
-//! - `round`: what a script says of one round.
-//! - `clocks`: the good clocks, and one round after another.
-//! - `theorems`: what is proved of a round, whatever a script says.
+//! - `station`: a good node, with all that its driver has.
+//! - `bus`: the nodes on the bus, round after round.
+//! - `theorems`: what is proved of scripts, beside what the calls promise.
 
 #![tactic(auto)]
 
-pub mod clocks;
-pub mod round;
+pub mod bus;
+pub mod station;
+#[cfg(test)]
+mod tests;
 pub mod theorems;
 
-pub use clocks::{Clocks, GoodClock, Outcome, Played, Player, Refusal};
-pub use round::Round;
-pub use schedule::Heard;
+pub use bus::{Bus, Watch};
+pub use station::{Came, Station};

@@ -1,23 +1,19 @@
-//! The theorems of this crate. Each function's contract is a statement of `specs/Theorems.antt`, so that
-//! the crate is not proved without it; what the function does is nothing.
-ghost use Rattle.cluster.specs.Theorems.{Halves, StaysTogether, NotPulledOut, LimitsCanBeKept};
+//! The theorems of this crate, beside what `Bus::play` and `Bus::play_all` promise. Each function's contract is a statement of
+//! `specs/Limits.antt`, so that the crate is not proved without it; what the function does is nothing.
+ghost use Rattle.cluster.specs.Limits.{ScriptsKeep, ScriptsStand, LimitsCanBeKept};
 
-/// Whatever the bad nodes say, a round that is played halves what good clocks are apart, up to a rest.
-pub fn round_halves_the_distance()
-    ensures { Halves }
+/// A script that keeps the limits, which is told by the script alone, keeps them in each round that is played of it.
+pub fn scripts_keep_the_limits()
+    ensures { ScriptsKeep }
 {}
 
-/// Good clocks within the bound are within it after any number of rounds that are played.
-pub fn good_clocks_stay_together()
-    ensures { StaysTogether }
+/// So where it has good clocks begin within the bound, they are within it after each round, and good nodes agree at each
+/// cycle's end, whatever it says of the bad ones.
+pub fn scripts_stand()
+    ensures { ScriptsStand }
 {}
 
-/// Whatever the bad nodes say, a good clock is set to what good clocks span, but for what it reads wrong.
-pub fn nobody_is_pulled_out()
-    ensures { NotPulledOut }
-{}
-
-/// What the theorems ask of a script is not more than one can keep.
+/// And there are such scripts.
 pub fn limits_can_be_kept()
     ensures { LimitsCanBeKept }
 {}

@@ -1,14 +1,14 @@
-mod Completing
+pub mod Completing
 mod Receiving
-mod Open
-mod Roles
-mod Accepted
-mod Filling
+pub mod Open
+pub mod Roles
+pub mod Accepted
+pub mod Filling
 mod Placing
 mod Stages
 mod Rounds
 mod Cycling
-mod Settings
+pub mod Settings
 mod Carrying
 mod Firsts
 mod Noting

@@ -1,5 +1,5 @@
-use Rattle.cluster.proofs.Possible.{limits_can_be_kept_lem}
+use Rattle.cluster.proofs.Little.{limits_can_be_kept}
 use Rattle.cluster.proofs.theorems.limits_can_be_kept.Goals as goal
 
 pub returns : goal.returns
-returns c = limits_can_be_kept_lem
+returns c = limits_can_be_kept

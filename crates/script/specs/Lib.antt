@@ -1,0 +1,9 @@
+pub mod Rounds
+pub mod Hex
+pub mod Setup
+pub mod Naming
+pub mod Running
+pub mod Reading
+pub mod Words
+pub mod Text
+pub mod Theorems
