@@ -8,7 +8,7 @@ use Rattle.schedule.specs.Slots.{longest}
 use Rattle.script.specs.declared.round.Round.{Round}
 use Rattle.cluster.specs.Playing.{player, span_of, Plays, PlaysAll, SeenIn}
 use Rattle.cluster.specs.Playing.PlaysAll.{no_more, one_first}
-use Rattle.cluster.specs.Standing.{Shows, is_good, is_whole, InRound, InStep, KeepsLimits, Apart, KeepsInStep, LimitsIn, AllKept, EachKept, SeenRun}
+use Rattle.cluster.specs.Standing.{Shows, is_good, is_whole, InRound, InStep, KeepsLimits, Apart, KeepsInStep, LimitsIn, Kept, Each, KeptWithin, SeenRun}
 use Rattle.cluster.specs.Stations.{run_on}
 use Rattle.script.specs.Rounds.{drift_of}
 use Rattle.cluster.specs.declared.station.Came.TheVariants as came
@@ -95,20 +95,25 @@ keeps_in_step b after r plays step limits =
       agreed = λ ended. they_agree b after r step limits.few over ended;
     }
 
-pub all_kept : (b after : Bus) (rounds : List Round) (played : PlaysAll b rounds after) → InStep b → Apart b (bound_of b.schedule.cluster) →
-    LimitsIn b after rounds played → AllKept b after rounds played
-all_kept _ _ _ (no_more b) step near limits = tt
-all_kept _ _ _ (one_first b between after r rest plays played) step near limits =
-    let kept = keeps_in_step b between r plays step limits.0 in
-    let still : Apart between (bound_of between.schedule.cluster) = subst (λ s. Apart between (bound_of s.cluster)) (sym kept.same_schedule) (kept.together near) in
-    (kept, still, all_kept between after rest played kept.in_step still limits.1)
-
--- whether they begin within the bound or not
-pub each_kept : (b after : Bus) (rounds : List Round) (played : PlaysAll b rounds after) → InStep b → LimitsIn b after rounds played → EachKept b after rounds played
+-- each round of several
+each_kept : (b after : Bus) (rounds : List Round) (played : PlaysAll b rounds after) → InStep b → LimitsIn b after rounds played → Each Kept b after rounds played
 each_kept _ _ _ (no_more b) step limits = tt
 each_kept _ _ _ (one_first b between after r rest plays played) step limits =
     let kept = keeps_in_step b between r plays step limits.0 in
     (kept, each_kept between after rest played kept.in_step limits.1)
+
+-- so where good clocks begin within the bound they are within it behind each
+stay_within : (b after : Bus) (rounds : List Round) (played : PlaysAll b rounds after) → Each Kept b after rounds played → Apart b (bound_of b.schedule.cluster) →
+    Each KeptWithin b after rounds played
+stay_within _ _ _ (no_more b) kept near = tt
+stay_within _ _ _ (one_first b between after r rest plays played) kept near =
+    let still : Apart between (bound_of between.schedule.cluster) =
+    subst (λ s. Apart between (bound_of s.cluster)) (sym kept.0.same_schedule) (kept.0.together near) in
+    ((kept.0, still), stay_within between after rest played kept.1 still)
+
+pub all_kept : (b after : Bus) (rounds : List Round) (played : PlaysAll b rounds after) → InStep b → Apart b (bound_of b.schedule.cluster) →
+    LimitsIn b after rounds played → Each KeptWithin b after rounds played
+all_kept b after rounds played step near limits = stay_within b after rounds played (each_kept b after rounds played step limits) near
 
 -- so it is of rounds that were played, whoever has seen them
 pub seen_run : {W : Type 0} (sees : W → Bus → Round → Bool → W → Type 0) (b after : Bus) (rounds : List Round) (watch : W) (more : Bool) (watched : W) →

@@ -12,7 +12,7 @@ use Rattle.script.specs.declared.setup.Setup.{Setup}
 use Rattle.script.specs.declared.setup.Starting.{Starting}
 use Rattle.script.specs.declared.setup.Starting.TheVariants as starting
 use Rattle.cluster.specs.Playing.{span_of, Begins, PlaysAll}
-use Rattle.cluster.specs.Standing.{LimitsIn, AllKept}
+use Rattle.cluster.specs.Standing.{LimitsIn, Each, KeptWithin}
 use Rattle.cluster.specs.declared.bus.Bus.{Bus}
 
 -- how a node starts, and a node of the cluster that starts as a good one
@@ -65,7 +65,7 @@ StartTogether setup =
 abbrev pub ScriptsStand : Type 0
 ScriptsStand =
     (setup : Setup) (rounds : List Round) (b after : Bus) → Begins setup b → KeptByScript setup rounds → StartTogether setup →
-    (played : PlaysAll b rounds after) → AllKept b after rounds played
+    (played : PlaysAll b rounds after) → Each KeptWithin b after rounds played
 
 -- And there are such scripts: nothing is given of the good nodes, their clocks begin within 10^11, and no message says more than that. Of these there may be
 -- 50 rounds, however long the slots are.

@@ -75,7 +75,8 @@ pub record KeepsLimits (b : Bus) (r : Round) : Type 0 where
   pub below :
       (p : ℕ) (a : Station) → Shows b p a → a.time + span_of b.schedule + error_of b.schedule.cluster + b.schedule.cluster.drift < clock_limit
   pub lies :
-      (p q : ℕ) (a : Station) (m : Message) → Shows b p a → q < b.schedule.cluster.nodes → good_in b q ≡ false → only_message r p q ≡ Some m → b.common + m.reading < clock_limit
+      (p q : ℕ) (a : Station) (m : Message) → Shows b p a → q < b.schedule.cluster.nodes → good_in b q ≡ false → only_message r p q ≡ Some m →
+      b.common + m.reading < clock_limit
   pub counted : b.common + span_of b.schedule ≤ largest
   pub counts : b.round < largest
 
@@ -110,8 +111,8 @@ pub record Agreed (before after : Bus) : Type 0 where
   pub same : (p : ℕ) (a : Station) → Shows after p a → results_in a.node ≡ Some results
   pub right : (p : ℕ) (a : Station) → Shows before p a → slice_index results p ≡ a.value
 
--- What holds of a round that was played: the good nodes are the same, and in step again; each has heard each other one's frame whole; what their clocks were apart is halved, up to a rest, so the bound is kept;
--- nobody is pulled out; and at a cycle's end they agree.
+-- What holds of a round that was played: the good nodes are the same, and in step again; each has heard each other one's frame whole; what their clocks were apart is
+-- halved, up to a rest, so the bound is kept; nobody is pulled out; and at a cycle's end they agree.
 pub record Kept (before after : Bus) : Type 0 where
   pub same_schedule : after.schedule ≡ before.schedule
   pub same_good : (p : ℕ) → p < before.schedule.cluster.nodes → good_in after p ≡ good_in before p
@@ -130,19 +131,19 @@ abbrev pub LimitsIn : (before after : Bus) (rounds : List Round) → PlaysAll be
 LimitsIn _ _ _ (no_more b) = Unit {0}
 LimitsIn _ _ _ (one_first before between after r rest plays played) = KeepsLimits before r × LimitsIn between after rest played
 
-abbrev pub AllKept : (before after : Bus) (rounds : List Round) → PlaysAll before rounds after → Type 0
-AllKept _ _ _ (no_more b) = Unit {0}
-AllKept _ _ _ (one_first before between after r rest plays played) =
-    Kept before between × Apart between (bound_of between.schedule.cluster) × AllKept between after rest played
+-- what each of them kept
+abbrev pub Each : (Bus → Bus → Type 0) → (before after : Bus) (rounds : List Round) → PlaysAll before rounds after → Type 0
+Each keeps _ _ _ (no_more b) = Unit {0}
+Each keeps _ _ _ (one_first before between after r rest plays played) = keeps before between × Each keeps between after rest played
 
-abbrev pub EachKept : (before after : Bus) (rounds : List Round) → PlaysAll before rounds after → Type 0
-EachKept _ _ _ (no_more b) = Unit {0}
-EachKept _ _ _ (one_first before between after r rest plays played) = Kept before between × EachKept between after rest played
+abbrev pub KeptWithin : Bus → Bus → Type 0
+KeptWithin before after = Kept before after × Apart after (bound_of after.schedule.cluster)
 
 pub record Run (before : Bus) (rounds : List Round) (after : Bus) : Type 0 where
   pub played : PlaysAll before rounds after
-  pub keeps : InStep before → LimitsIn before after rounds played → EachKept before after rounds played
-  pub stands : InStep before → Apart before (bound_of before.schedule.cluster) → LimitsIn before after rounds played → AllKept before after rounds played
+  pub keeps : InStep before → LimitsIn before after rounds played → Each Kept before after rounds played
+  pub stands :
+      InStep before → Apart before (bound_of before.schedule.cluster) → LimitsIn before after rounds played → Each KeptWithin before after rounds played
 
 -- They were played, and whoever watches has seen each.
 abbrev pub SeenRun : {W : Type 0} → (W → Bus → Round → Bool → W → Type 0) → Bus → List Round → Bus → W → Bool → W → Type 0
@@ -153,4 +154,5 @@ abbrev pub AllSeen : {W : Type 0} → (W → Bus → Round → Bool → W → Ty
 AllSeen sees before rounds after watch watched = SeenRun sees before rounds after watch true watched
 
 abbrev pub SomeSeen : {W : Type 0} → (W → Bus → Round → Bool → W → Type 0) → Bus → List Round → Bus → W → W → Type 0
-SomeSeen sees before rounds after watch watched = (count : ℕ) × (count < length rounds) × SeenRun sees before (take (count + 1) rounds) after watch false watched
+SomeSeen sees before rounds after watch watched =
+    (count : ℕ) × (count < length rounds) × SeenRun sees before (take (count + 1) rounds) after watch false watched
