@@ -28,6 +28,7 @@ use std::alloc::Global;
 use std::fmt::Display;
 use std::fs::File;
 use std::io::{BufRead, BufReader, BufWriter, Read};
+use std::os::unix::fs::MetadataExt;
 use std::process::ExitCode;
 use std::{env, fs, io};
 
@@ -57,8 +58,11 @@ fn fail(rt: &HostRuntime, why: impl Display + Drop) -> anyhow::Result<ExitCode> 
     Ok(ExitCode::FAILURE)
 }
 
-// Plays the script, and draws the picture.
+// Plays the script, and draws the picture, unless that would be written over the script.
 fn fulfil(rt: &HostRuntime, wish: &Wish<'_>) -> anyhow::Result<ExitCode> {
+    if is_over_script(rt, wish) {
+        return fail(rt, USAGE);
+    }
     let source = wish.file.unwrap_or("standard input");
     match play(rt, wish) {
         Ok(history) => draw(rt, wish, history.as_ref()),
@@ -67,6 +71,22 @@ fn fulfil(rt: &HostRuntime, wish: &Wish<'_>) -> anyhow::Result<ExitCode> {
         }
         Err(Failure::Wrong(fault)) => fail(rt, fault),
         Err(Failure::Unprinted(error)) => Err(error.into()),
+    }
+}
+
+// Whether the picture is to go where the script is.
+fn is_over_script(rt: &HostRuntime, wish: &Wish<'_>) -> bool {
+    match (wish.file, wish.picture) {
+        (Some(file), Some(picture)) => is_one_file(rt, file, picture),
+        _ => false,
+    }
+}
+
+// Whether two names are of one file, as where one is a link to the other.
+fn is_one_file(rt: &HostRuntime, one: &str, other: &str) -> bool {
+    match (fs::metadata(rt, one), fs::metadata(rt, other)) {
+        (Ok(one), Ok(other)) => one.dev() == other.dev() && one.ino() == other.ino(),
+        _ => false,
     }
 }
 

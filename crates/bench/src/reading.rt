@@ -53,14 +53,16 @@ fn read_line<T: Takes>(
     to: &mut T,
 ) -> Result<(), Failure> {
     match reader.line(line) {
-        Ok(round) => hand_on(reader, round, to),
+        Ok(None) => Ok(()),
+        Ok(Some(round)) => hand_on(reader, round, to),
         Err(fault) => Err(wrong(heap, fault)),
     }
 }
 
 fn read_end<T: Takes>(heap: Global, reader: &mut Reader, to: &mut T) -> Result<(), Failure> {
     match reader.end() {
-        Ok(round) => hand_on(reader, round, to)?,
+        Ok(None) => {}
+        Ok(Some(round)) => hand_on(reader, round, to)?,
         Err(fault) => return Err(wrong(heap, fault)),
     }
     match reader.setup() {
@@ -69,12 +71,10 @@ fn read_end<T: Takes>(heap: Global, reader: &mut Reader, to: &mut T) -> Result<(
     }
 }
 
-// Hands on a round, if one has ended.
-fn hand_on<T: Takes>(reader: &Reader, round: Option<Round>, to: &mut T) -> Result<(), Failure> {
-    if let Some(round) = round {
-        if let Some(setup) = reader.setup() {
-            return to.take(setup, round);
-        }
+// Hands on a round that has ended.
+fn hand_on<T: Takes>(reader: &Reader, round: Round, to: &mut T) -> Result<(), Failure> {
+    match reader.setup() {
+        Some(setup) => to.take(setup, round),
+        None => Ok(()),
     }
-    Ok(())
 }

@@ -29,9 +29,15 @@ pub(crate) fn play<B: BufRead + Drop, W: Write + Drop>(
             history: None,
         },
     };
-    reading::read(heap, script, &mut stage)?;
-    let Stage { audience, .. } = stage;
-    audience.end()
+    match reading::read(heap, script, &mut stage) {
+        Ok(()) => stage.end(),
+        Err(Failure::Unprinted(error)) => Err(Failure::Unprinted(error)),
+        // It has changed since it was checked: the rounds before what is wrong are played all the same.
+        Err(failure) => {
+            let _history = stage.end()?;
+            Err(failure)
+        }
+    }
 }
 
 // The cluster, once its nodes are known, and the rounds that it has still to play.
@@ -62,20 +68,35 @@ impl<W: Write + Drop> Takes for Stage<W> {
     }
 
     fn finish(&mut self, setup: &Setup) -> Result<(), Failure> {
-        self.begin(setup)?;
-        self.play_waiting()
+        self.begin(setup)
     }
 }
 
 impl<W: Write + Drop> Stage<W> {
-    // The cluster, before its first round.
+    // The cluster is there before its first round.
     fn begin(&mut self, setup: &Setup) -> Result<(), Failure> {
-        if self.bus.is_none() {
-            let bus = Bus::new(self.heap, setup)?;
-            self.audience.begin(self.heap, setup, &bus)?;
-            self.bus = Some(bus);
+        match self.bus {
+            Some(_) => Ok(()),
+            None => self.enter(setup),
         }
+    }
+
+    // The cluster, before its first round. Apart from `begin`, which each round calls: a function clears its locals when it is
+    // called, and a cluster is large.
+    #[cold]
+    #[inline(never)]
+    fn enter(&mut self, setup: &Setup) -> Result<(), Failure> {
+        let bus = Bus::new(self.heap, setup)?;
+        self.audience.begin(self.heap, setup, &bus)?;
+        self.bus = Some(bus);
         Ok(())
+    }
+
+    // The script is over: what waits is played.
+    fn end(mut self) -> Result<Option<History>, Failure> {
+        self.play_waiting()?;
+        let Stage { audience, .. } = self;
+        audience.end()
     }
 
     // Plays all rounds that wait.

@@ -5,7 +5,7 @@ use Rattle.std.specs.Array.{IsFromFnResultFrom, IsFromFnResult, MapsFrom, IsMapO
 use Rattle.std.specs.List.{range_with_len}
 use Rattle.std.proofs.lemmas.Bool.{cases_eq}
 use Rattle.std.proofs.lemmas.List.{same_lists, get_or-map, length-map, map-id}
-use Rattle.std.proofs.lemmas.List.FromFn.{fill_by_all}
+use Rattle.std.proofs.lemmas.List.FromFn.{fill_by_all, length-map-range_with_len, get_or-map-range_with_len}
 
 -- what each of n steps from i on gives
 each_of : (R : ℕ → ℕ → Type 0) (P : ℕ → Type 0) → ((i n : ℕ) → R i (suc n) → P i × R (i + 1) n) → (n i : ℕ) → R i n → (k : ℕ) → i ≤ k → k < i + n → P k
@@ -47,3 +47,9 @@ map_gives {F} {A} {B} g h f call xs ys n long made =
     n 0 made.each in
     same_lists ys (map h xs) (made.long ∙ sym (length-map xs h ∙ long))
     (λ k d l. let (x, at, e) = each k (omega arith) (omega (arith, made.long)) in e d ∙ sym (get_or-map h xs k x d (omega (arith, made.long)) ∙ ap h at))
+
+-- what is the same at each of the first n places
+pub same_places : {X : Type 0} (h k : ℕ → X) (n : ℕ) → ((i : ℕ) → i < n → h i ≡ k i) → map h (range_with_len 0 n) ≡ map k (range_with_len 0 n)
+same_places h k n same =
+    fill_by_all k (map h (range_with_len 0 n)) n (h 0) (length-map-range_with_len h 0 n)
+    (λ i l. get_or-map-range_with_len h 0 n i i (h 0) l (omega arith) ∙ same i l)

@@ -1,9 +1,10 @@
 -- Tests over the nodes of a cluster, and what is read of them in rising order: two lists of readings share a good node. Assumes nothing.
-use Rattle.std.proofs.Common.{◌≡◌, ℕ, zero, suc, ◌+◌, ◌<◌, ◌≤◌, Bool, true, false, not, ◌||◌, ltb, List, [], ◌∷◌, map, get_or, refl, inl, inr, arith}
-use Rattle.std.proofs.lemmas.List.FromFn.{length-map-range_with_len}
+use Rattle.std.proofs.Common.{◌≡◌, ℕ, zero, suc, ◌+◌, ◌<◌, ◌≤◌, Bool, true, false, not, ◌||◌, ltb, List, [], ◌∷◌, map, get_or, sym, refl, ◌∙◌, subst, inl, inr, zero-add, arith}
+use Rattle.std.proofs.lemmas.List.FromFn.{length-map-range_with_len, length-range_with_len, get_or-range_with_len}
+use Rattle.std.proofs.ByRecursion.{All-from_get_or}
 use Rattle.std.proofs.lemmas.Bool.{cases_Bool}
 use Rattle.std.proofs.lemmas.Bool.Decides.{nat_tests}
-use Rattle.std.specs.List.{range_with_len}
+use Rattle.std.specs.List.{range_with_len, AllByRecursion}
 use Rattle.midpoint.specs.Order.{sorted, count}
 use Rattle.midpoint.specs.Theorems.{outside}
 use Rattle.midpoint.specs.Midpoint.{midpoint}
@@ -15,6 +16,18 @@ pub count_map : (test : ℕ → Bool) (f : ℕ → ℕ) (xs : List ℕ) → coun
 unfolding count
 count_map test f [] = refl
 count_map test f (x ∷ xs) = omega (arith, count_map test f xs)
+
+-- what holds of each node holds of their list
+pub all_counting : (P : ℕ → Type 0) (n : ℕ) → ((q : ℕ) → q < n → P q) → AllByRecursion P (range_with_len 0 n)
+all_counting P n each =
+    All-from_get_or P (range_with_len 0 n) 0
+    (λ i h. let l : i < n = omega (arith, length-range_with_len 0 n) in subst P (sym (get_or-range_with_len 0 n i 0 l ∙ zero-add i)) (each i l))
+
+-- what passes one of two tests counts no more than what passes the one and what passes the other
+pub count_either : (a b : ℕ → Bool) (xs : List ℕ) → count (λ x. a x || b x) xs ≤ count a xs + count b xs
+unfolding count
+count_either a b [] = omega arith
+count_either a b (x ∷ xs) = let ih = count_either a b xs in grind (arith, nat_tests)
 
 -- where three tests catch fewer than all of n nodes, they let one through
 let_through : (b c d : ℕ → Bool) (a n : ℕ) → count b (range_with_len a n) + (count c (range_with_len a n) + count d (range_with_len a n)) < n →
@@ -28,7 +41,7 @@ let_through b c d a (suc n) h =
     ]
 
 -- where the readings of good nodes lie in a span, no more lie outside of it than nodes are bad
-few_outside : (a n low high : ℕ) (good : ℕ → Bool) (y : ℕ → ℕ) → ((q : ℕ) → q < a + n → good q ≡ true → (low ≤ y q) × (y q ≤ high)) →
+pub few_outside : (a n low high : ℕ) (good : ℕ → Bool) (y : ℕ → ℕ) → ((q : ℕ) → q < a + n → good q ≡ true → (low ≤ y q) × (y q ≤ high)) →
     outside low high (map y (range_with_len a n)) ≤ count (λ q. not (good q)) (range_with_len a n)
 unfolding count
 few_outside a zero low high good y span = omega arith

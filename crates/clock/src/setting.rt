@@ -1,5 +1,5 @@
 //! A node's clock goes on, and is set at the end of a round.
-ghost use Rattle.std.specs.Prelude.{◌≡◌, ℕ, ◌<◌, ◌≤◌, take};
+ghost use Rattle.std.specs.Prelude.{◌≡◌, ◌<◌, ◌≤◌, take};
 ghost use Rattle.midpoint.specs.Refusals.{ByRows};
 ghost use Rattle.midpoint.specs.Setting.{SetSays, most_readings};
 ghost use Rattle.clock.specs.Setting.{untimely, code_of, GoneOn, SetBy, read_of, readings, shown_after, next_round_of, Showable};
@@ -99,7 +99,7 @@ impl Clock {
         ensures clock { SetBy cluster.now node self heard.now result.clock }
     {
         let nodes = cluster.nodes as usize;
-        let all = self.readings(node, heard);
+        let all = self.readings(nodes, node, heard);
         let answer = set_clock(cluster.faults, &all[0..nodes]);
         Step {
             clock: self.next_round(answer),
@@ -119,12 +119,14 @@ impl Clock {
         }
     }
 
-    // What the node reads of each node, and so of those of a cluster of any size.
-    fn readings(self, node: usize, heard: &[Option<i64>]) -> [u64; MAX_NODES]
-        ensures { (nodes : ℕ) → nodes ≤ most_readings → take nodes result ≡ readings nodes node self.shown heard.now }
+    // What the node reads of each node of a cluster of this many, and behind them 0: of the others nothing is worked out.
+    fn readings(self, nodes: usize, node: usize, heard: &[Option<i64>]) -> [u64; MAX_NODES]
+        ensures { nodes ≤ most_readings → take nodes result ≡ readings nodes node self.shown heard.now }
     {
         array::from_fn(|q| {
-            if q == node {
+            if q >= nodes {
+                0
+            } else if q == node {
                 self.shown
             } else {
                 self.read(heard.get(q).copied().flatten())

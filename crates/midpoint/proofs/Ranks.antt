@@ -1,9 +1,9 @@
 -- How many numbers of a list lie below or above the one at a place in rising order, and what that makes of the midpoint. Assumes nothing.
-use Rattle.std.proofs.Common.{◌≡◌, ℕ, zero, suc, ◌+◌, ◌-◌, ◌<◌, ◌≤◌, Bool, true, false, ltb, List, [], ◌∷◌, length, get_or, sym, ap, ◌∙◌, inl, inr, arith}
+use Rattle.std.proofs.Common.{◌≡◌, ℕ, zero, suc, ◌+◌, ◌-◌, ◌<◌, ◌≤◌, Bool, true, false, not, ltb, List, [], ◌∷◌, length, get_or, refl, sym, ap, ◌∙◌, inl, inr, arith}
 use Rattle.std.proofs.lemmas.List.Sums.{prefix_len_passes}
 use Rattle.std.proofs.lemmas.Bool.Decides.{nat_tests}
 use Rattle.std.proofs.lemmas.Bool.{cases_lt, le-ltb}
-use Rattle.std.specs.List.{prefix_len}
+use Rattle.std.specs.List.{prefix_len, AllByRecursion}
 use Rattle.midpoint.specs.Order.{sorted, count}
 use Rattle.midpoint.specs.Setting.{clock_limit, shown}
 use Rattle.midpoint.specs.Theorems.{Sorts, Trims, OrderFree, Holds, StaysShown, outside}
@@ -20,14 +20,14 @@ order_free f xs ys same =
     rw (e, l)
 
 -- in a list that rises no more than i numbers lie below the one at i
-few_below : (m : ℕ) (xs : List ℕ) (i : ℕ) → Rises m xs → i < length xs → count (λ x. ltb x (get_or xs i 0)) xs ≤ i
+pub few_below : (m : ℕ) (xs : List ℕ) (i : ℕ) → Rises m xs → i < length xs → count (λ x. ltb x (get_or xs i 0)) xs ≤ i
 unfolding count
 few_below m [] i r h = omega arith
 few_below m (x ∷ xs) zero r h = let none = count_none (λ y. ltb y x) xs (λ i d l. le-ltb _ x (at_least x xs i d r.1 l)) in grind (arith, nat_tests)
 few_below m (x ∷ xs) (suc i) r h = let ih = few_below x xs i r.1 (omega arith) in grind (arith, nat_tests)
 
 -- and above it no more than stand behind it
-few_above : (m : ℕ) (xs : List ℕ) (i : ℕ) → Rises m xs → i < length xs → count (ltb (get_or xs i 0)) xs + i < length xs
+pub few_above : (m : ℕ) (xs : List ℕ) (i : ℕ) → Rises m xs → i < length xs → count (ltb (get_or xs i 0)) xs + i < length xs
 unfolding count
 few_above m [] i r h = omega arith
 few_above m (x ∷ xs) zero r h = let all = count_le (ltb x) xs in grind (arith, nat_tests)
@@ -56,6 +56,18 @@ all_pass_one : (a b : ℕ → Bool) (xs : List ℕ) → ((x : ℕ) → a x ≡ f
 unfolding count
 all_pass_one a b [] one = omega arith
 all_pass_one a b (x ∷ xs) one = let ih = all_pass_one a b xs one in let here = one x in grind (arith, nat_tests)
+
+-- a test that passes where another one does counts no fewer
+pub count_over : (a b : ℕ → Bool) (xs : List ℕ) → AllByRecursion (λ x. a x ≡ true → b x ≡ true) xs → count a xs ≤ count b xs
+unfolding count
+count_over a b [] imp = omega arith
+count_over a b (x ∷ xs) (here, rest) = let ih = count_over a b xs rest in grind (arith, nat_tests)
+
+-- what passes a test and what fails it are all
+pub count_rest : (test : ℕ → Bool) (xs : List ℕ) → count test xs + count (λ x. not (test x)) xs ≡ length xs
+unfolding count
+count_rest test [] = refl
+count_rest test (x ∷ xs) = let ih = count_rest test xs in grind (arith, nat_tests)
 
 -- a place that has at least f numbers before it and f behind it has a number within the span that at most f numbers are outside of
 module _ (f low high : ℕ) (xs : List ℕ) (few : outside low high xs ≤ f) (i : ℕ) (before : f ≤ i) (behind : i + f < length xs) where

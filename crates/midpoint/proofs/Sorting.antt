@@ -74,7 +74,7 @@ rising_from_rises m (x ∷ xs) r zero j le h = at_least x (x ∷ xs) j 0 (omega 
 rising_from_rises m (x ∷ xs) r (suc i) zero le h = omega arith
 rising_from_rises m (x ∷ xs) r (suc i) (suc j) le h = rising_from_rises x xs r.1 i j (omega arith) (omega arith)
 
-rises_from_rising : (m : ℕ) (xs : List ℕ) → ((i : ℕ) → i < length xs → m ≤ get_or xs i 0) → Rising xs → Rises m xs
+pub rises_from_rising : (m : ℕ) (xs : List ℕ) → ((i : ℕ) → i < length xs → m ≤ get_or xs i 0) → Rising xs → Rises m xs
 rises_from_rising m [] low up = tt
 rises_from_rising m (x ∷ xs) low up = (
   low 0 (omega arith),
@@ -90,7 +90,7 @@ first_not_below x m xs y ys r same h =
     grind (arith, nat_tests)
 
 -- two lists that rise and have the same numbers are the same list
-same_rises : (m n : ℕ) (xs ys : List ℕ) → Rises m xs → Rises n ys → SameNumbers xs ys → xs ≡ ys
+pub same_rises : (m n : ℕ) (xs ys : List ℕ) → Rises m xs → Rises n ys → SameNumbers xs ys → xs ≡ ys
 unfolding count
 same_rises m n [] [] r s same = refl
 same_rises m n [] (y ∷ ys) r s same = let here = eq-eqb y y refl in let at = same y in absurd (grind (arith, nat_tests))

@@ -21,7 +21,7 @@ deviation_behind start pause began h = let e : pos pause -ℤ pos (began - start
 
 module _ {M : Type 0} where
   -- what is heard where so much has come whole, and these are still to come whole
-  abbrev joined : Timing → ℕ → Heard (Received M) → List (Arrival M) → Option (Received M)
+  abbrev pub joined : Timing → ℕ → Heard (Received M) → List (Arrival M) → Option (Received M)
   joined t slot Nothing xs = heard_as t slot (only xs)
   joined t slot (Once received) [] = Some received
   joined t slot (Once received) (x ∷ xs) = None

@@ -16,6 +16,7 @@ use Rattle.clock.specs.Setting.{read_of, reads, readings, unless, settled}
 use Rattle.clock.proofs.Nodes.{midpoint_within}
 use Rattle.clock.proofs.Rounds.{set_between}
 use Rattle.schedule.specs.Config.{timing_of}
+use Rattle.schedule.specs.Listening.{whole_in}
 use Rattle.schedule.specs.Messages.{Instant, instant, AheadBy, Sends, Course, FromSlot}
 use Rattle.schedule.specs.Slots.{Timing, owner_of, round_of, slot_of, slot_start, slot_end_of, round_end_of}
 use Rattle.schedule.specs.Theorems.{HearsWhole, HearsGoodNodes, ReadsRight, MakesARound, SetsBefore, NothingOverlaps, SetInTimeWithLeads}
@@ -25,11 +26,16 @@ use Rattle.schedule.specs.declared.limits.Schedule.{Schedule}
 pub slot_long : (t : Timing) (slot : ℕ) → slot_end_of t slot ≡ slot_start t slot + t.length
 slot_long t slot = omega (arith, add-mul slot 1 t.length)
 
+-- what is in its slot by both ends is whole in it
+pub whole : (t : Timing) (slot began ended : ℕ) → slot_start t slot ≤ began → ended ≤ slot_end_of t slot →
+    whole_in t slot (owner_of t slot) began ended ≡ true
+whole t slot began ended low high = grind (arith, nat_tests)
+
 pub hears_whole : HearsWhole
 hears_whole s slot sent began ended sends way early late =
-    let low : slot_start (timing_of s) slot ≤ began.shown = omega (arith, s.before) in
-    let high : ended.shown ≤ slot_end_of (timing_of s) slot = omega (arith, s.behind, slot_long (timing_of s) slot) in
-    grind (arith, nat_tests)
+    whole (timing_of s) slot began.shown ended.shown
+    (omega (arith, s.before))
+    (omega (arith, s.behind, slot_long (timing_of s) slot))
 
 -- clocks that are compared by what they are ahead of common time
 pub ahead_by : (a b : Moment) (d : ℕ) → lead a ≤ℤ (lead b +ℤ pos d) → AheadBy d (instant a) (instant b)

@@ -52,7 +52,10 @@ impl Reader {
         ensures err { IfErr result (FaultOfLine text.now self.old) }
     {
         self.lines = self.lines.saturating_add(1);
-        self.read(text).map_err(|untaken| untaken.at(self.lines))
+        match self.read(text) {
+            Ok(round) => Ok(round),
+            Err(untaken) => Err(untaken.at(self.lines)),
+        }
     }
 
     fn read<'a>(&mut self, text: &'a str) -> Result<Option<Round>, Untaken<'a>>
