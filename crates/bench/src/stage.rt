@@ -31,8 +31,9 @@ pub(crate) fn play<B: BufRead + Drop, W: Write + Drop>(
     };
     match reading::read(heap, script, &mut stage) {
         Ok(()) => stage.end(),
+        // What waits is not played again: nothing more can be printed, or memory is wanting.
         Err(Failure::Unprinted(error)) => Err(Failure::Unprinted(error)),
-        // It has changed since it was checked: the rounds before what is wrong are played all the same.
+        // The script has changed since it was checked: the rounds that ended before what is wrong are played all the same.
         Err(failure) => {
             let _history = stage.end()?;
             Err(failure)
@@ -73,7 +74,7 @@ impl<W: Write + Drop> Takes for Stage<W> {
 }
 
 impl<W: Write + Drop> Stage<W> {
-    // The cluster is there before its first round.
+    // Before the first round the cluster is made; later it is there.
     fn begin(&mut self, setup: &Setup) -> Result<(), Failure> {
         match self.bus {
             Some(_) => Ok(()),
@@ -81,8 +82,8 @@ impl<W: Write + Drop> Stage<W> {
         }
     }
 
-    // The cluster, before its first round. Apart from `begin`, which each round calls: a function clears its locals when it is
-    // called, and a cluster is large.
+    // The cluster is made. Apart from `begin`, which each round calls: a function clears its locals when it is called, and a cluster
+    // is large.
     #[cold]
     #[inline(never)]
     fn enter(&mut self, setup: &Setup) -> Result<(), Failure> {

@@ -52,6 +52,7 @@ impl Reader {
         ensures err { IfErr result (FaultOfLine text.now self.old) }
     {
         self.lines = self.lines.saturating_add(1);
+        // A match, and no `map_err`: a call would copy the answer, which has room for a round, once more for each line.
         match self.read(text) {
             Ok(round) => Ok(round),
             Err(untaken) => Err(untaken.at(self.lines)),
